@@ -1,0 +1,8 @@
+pub mod Calls
+pub mod Fault
+pub mod Reserved
+pub mod Partition
+pub mod Limits
+pub mod Stream
+pub mod Memory
+pub mod Image

@@ -1,0 +1,10 @@
+-- The limits of one worker's store.
+use Rattle.std.specs.Prelude.{ℕ, ◌^◌, ◌≤◌}
+use Rattle.kv_base.specs.declared.limits.Limits.{Limits}
+
+-- limits that a store can be opened with
+pub record AreLimits (limits : Limits) : Type 0 where
+  pub some_slots : 1 ≤ limits.slots
+  pub slots : limits.slots ≤ 2 ^ 24
+  pub some_pages : 1 ≤ limits.cache
+  pub pages : limits.cache ≤ 1024

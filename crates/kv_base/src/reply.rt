@@ -1,0 +1,48 @@
+use crate::Bytes;
+
+/// What the store answers to one request.
+#[derive(Debug, Drop)]
+pub enum Reply {
+    /// The value is on disk.
+    Stored {
+        /// The stamp of the request.
+        stamp: u64,
+    },
+    /// The key has this value at the stamp.
+    Found {
+        /// The stamp of the request.
+        stamp: u64,
+        /// The value.
+        value: Bytes,
+    },
+    /// The key has no value at the stamp.
+    Missing {
+        /// The stamp of the request.
+        stamp: u64,
+    },
+    /// The key has no byte or more than 255.
+    BadKey,
+    /// Key and value together are larger than the largest class.
+    TooLarge,
+    /// The class has no slot left.
+    Full {
+        /// The class of the item.
+        class: u8,
+    },
+    /// Memory ran out. Nothing changed.
+    NoMemory,
+    /// A read of the disk failed. Nothing changed.
+    DiskFault,
+    /// A write or a sync failed: the write may be on disk or not, until the store is opened again.
+    Unsure {
+        /// The stamp of the request.
+        stamp: u64,
+    },
+    /// An earlier write or sync failed. The store answers nothing else until it is opened again.
+    Closed,
+    /// The bytes at the offset are no request, and nothing behind them was read.
+    Malformed {
+        /// How many bytes of the session stand before them.
+        offset: u64,
+    },
+}

@@ -1,0 +1,18 @@
+use crate::Bytes;
+
+/// What a session asks of the store.
+#[derive(Debug, Drop)]
+pub enum Request {
+    /// Gives the key this value.
+    Put {
+        /// The key, 1 to 255 bytes, else the reply is `BadKey`.
+        key: Bytes,
+        /// The value. With the key it has at most the room of the largest class, else the reply is `TooLarge`.
+        value: Bytes,
+    },
+    /// Asks for the value of the key.
+    Get {
+        /// The key, 1 to 255 bytes, else the reply is `BadKey`.
+        key: Bytes,
+    },
+}

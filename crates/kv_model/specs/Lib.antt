@@ -1,0 +1,15 @@
+pub mod Pairwise
+pub mod History
+pub mod Layout
+pub mod Pairs
+pub mod Agreement
+pub mod Order
+pub mod Frames
+pub mod Transcript
+pub mod Padding
+pub mod Slots
+pub mod SlotBytes
+pub mod Head
+pub mod Reading
+pub mod Recovery
+pub mod Oracle

@@ -1,0 +1,81 @@
+-- Requests with their replies, and the writes that they stand for.
+use Rattle.std.specs.Prelude.{ℕ, List, Option, None, Some}
+use Rattle.std.specs.List.{filter_map}
+use Rattle.kv_base.specs.declared.request.Request.{Request}
+use Rattle.kv_base.specs.declared.request.Request.TheVariants.{Put, Get}
+use Rattle.kv_base.specs.declared.reply.Reply.{Reply}
+use Rattle.kv_base.specs.declared.reply.Reply.TheVariants.{Stored, Found, Missing, BadKey, TooLarge, Full, NoMemory, DiskFault, Unsure, Closed, Malformed}
+use Rattle.kv_model.specs.History.{Write}
+
+-- a request and its reply
+pub record Pair : Type 0 where
+  pub request : Request
+  pub reply : Reply
+
+-- what the request writes at the stamp
+abbrev pub written : Request → ℕ → Option Write
+written (Put key value) stamp = Some (record { stamp = stamp; key = key; value = Some value })
+written (Get key) stamp = None
+
+-- the key that the request is about
+abbrev pub key_of : Request → List ℕ
+key_of (Put key value) = key
+key_of (Get key) = key
+
+-- the write of the request that this reply acknowledges
+abbrev pub acknowledged_by : Request → Reply → Option Write
+acknowledged_by request (Stored stamp) = written request stamp
+acknowledged_by request (Found stamp value) = None
+acknowledged_by request (Missing stamp) = None
+acknowledged_by request BadKey = None
+acknowledged_by request TooLarge = None
+acknowledged_by request (Full class) = None
+acknowledged_by request NoMemory = None
+acknowledged_by request DiskFault = None
+acknowledged_by request (Unsure stamp) = None
+acknowledged_by request Closed = None
+acknowledged_by request (Malformed offset) = None
+
+-- the write that the pair acknowledges
+abbrev pub acknowledged : Pair → Option Write
+acknowledged pair = acknowledged_by pair.request pair.reply
+
+-- the write of the request that may be on disk or not after this reply
+abbrev pub unsure_by : Request → Reply → Option Write
+unsure_by request (Stored stamp) = None
+unsure_by request (Found stamp value) = None
+unsure_by request (Missing stamp) = None
+unsure_by request BadKey = None
+unsure_by request TooLarge = None
+unsure_by request (Full class) = None
+unsure_by request NoMemory = None
+unsure_by request DiskFault = None
+unsure_by request (Unsure stamp) = written request stamp
+unsure_by request Closed = None
+unsure_by request (Malformed offset) = None
+
+-- the stamp that the reply carries
+abbrev pub stamp_of : Reply → Option ℕ
+stamp_of (Stored stamp) = Some stamp
+stamp_of (Found stamp value) = Some stamp
+stamp_of (Missing stamp) = Some stamp
+stamp_of BadKey = None
+stamp_of TooLarge = None
+stamp_of (Full class) = None
+stamp_of NoMemory = None
+stamp_of DiskFault = None
+stamp_of (Unsure stamp) = Some stamp
+stamp_of Closed = None
+stamp_of (Malformed offset) = None
+
+-- the writes that were acknowledged
+abbrev pub writes : List Pair → List Write
+writes pairs = filter_map acknowledged pairs
+
+-- the writes that may be on disk or not
+abbrev pub unsure_writes : List Pair → List Write
+unsure_writes pairs = filter_map (λ pair. unsure_by pair.request pair.reply) pairs
+
+-- the stamps of the replies, in the order of the pairs
+abbrev pub stamps : List Pair → List ℕ
+stamps pairs = filter_map (λ pair. stamp_of pair.reply) pairs

@@ -1,0 +1,62 @@
+ghost use Rattle.std.specs.Prelude.{◌≡◌, [], ◌∷◌, ◌++◌, OnOk, OnErr};
+ghost use Rattle.std.specs.Option.{option_copied};
+
+use crate::latest::{find_latest, value_of};
+use crate::write::Recorded;
+use kv_base::{Bytes, NoMemory};
+use std::alloc::Global;
+use std::marker::Model;
+
+/// A plain program over a list of writes, with which a store can be compared. Contracts see the list.
+#[derive(Debug, Drop)]
+pub struct Oracle {
+    alloc: Global,
+    writes: Vec<Recorded>,
+}
+
+impl Model for Oracle {
+    ghost use Rattle.std.specs.Prelude.{List};
+    ghost use Rattle.kv_model.specs.History.{Write};
+
+    ghost Value = { List Write };
+
+    ghost use Rattle.kv_model.specs.Oracle.{history_of};
+
+    ghost view = { λ o. history_of o.writes.items };
+}
+
+impl Oracle {
+    ghost use Rattle.kv_model.specs.History.{value_at};
+
+    /// No write so far.
+    pub fn new(alloc: Global) -> Oracle
+        ensures { result ≡ [] }
+    {
+        Oracle {
+            alloc,
+            writes: Vec::new(alloc),
+        }
+    }
+
+    /// Adds a write; no value is a deletion. The one error is want of memory, and then the list is as before.
+    pub fn write(&mut self, stamp: u64, key: &[u8], value: Option<&[u8]>) -> Result<(), NoMemory>
+        ensures ok { OnOk result (self.new ≡ self.old ++ record { stamp = stamp; key = key.now; value = option_copied value.entry } ∷ []) }
+        ensures err { OnErr result (self.new ≡ self.old) }
+    {
+        let key = Bytes::copy(self.alloc, key)?;
+        let value = match value {
+            None => None,
+            Some(value) => Some(Bytes::copy(self.alloc, value)?),
+        };
+        self.writes.push(Recorded { stamp, key, value })?;
+        Ok(())
+    }
+
+    /// What the key has at the stamp: the value of its write with the greatest stamp not above that.
+    /// `None` where there is no such write or it is a deletion.
+    pub fn value_at(&self, stamp: u64, key: &[u8]) -> Option<&[u8]>
+        ensures { option_copied result ≡ value_at self.now stamp key.now }
+    {
+        value_of(find_latest(&self.writes, stamp, key))
+    }
+}

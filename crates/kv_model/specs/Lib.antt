@@ -13,3 +13,4 @@ pub mod Head
 pub mod Reading
 pub mod Recovery
 pub mod Oracle
+pub mod Examples

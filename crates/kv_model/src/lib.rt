@@ -2,7 +2,11 @@
 #![tactic(auto)]
 
 mod latest;
+mod laws;
 mod oracle;
+#[cfg(test)]
+mod tests;
 mod write;
 
+pub use laws::stamps_rise;
 pub use oracle::Oracle;

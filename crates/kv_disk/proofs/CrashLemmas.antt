@@ -32,7 +32,7 @@ goes_on from mid to past between since P so_far call here = record {
   each = λ t above below image left. elim (cases_lt mid t) [
     | inl after ↦ here image (let at : t ≡ to = omega (arith, call.counted) in let Q : ℕ → Type 0 = λ n. MayLeave (since n) image in subst Q at left)
     | inr within ↦ so_far.each t above within image (left-before (between t) (since t) image (call.same t within).no_more left)
-    ];
+  ];
   before = λ t le. same-trans (past t) (between t) (since t) (so_far.before t le) (call.same t (omega (arith, le, so_far.later)));
 }
 
@@ -50,25 +50,29 @@ write_follows file page content result old new seen told adds image left =
     let elsewhere : (f p : ℕ) → (f ≡ file → p ≡ page → ⊥) → old f p (image f p) = λ f p other. elim (adds.no_more f p (image f p) (left f p)) [
       | inl was ↦ was
       | inr put ↦ absurd (other put.0 put.1)
-      ] in
+    ] in
     let read : MayLeave old seen = told (file + 1) page (image (file + 1) page) (elsewhere (file + 1) page (λ same _. absurd (omega arith))) in
     let at_it : (f p : ℕ) (x : Image) → f ≡ file → p ≡ page → old file page (x file page) → old f p (x f p) = λ f p x same_file same_page has.
-      (let Q : ℕ → ℕ → Type 0 = λ m n. old m n (x m n) in subst₂ Q (sym same_file) (sym same_page) has) in
+    (let Q : ℕ → ℕ → Type 0 = λ m n. old m n (x m n) in subst₂ Q (sym same_file) (sym same_page) has) in
     elim (adds.no_more file page (image file page) (left file page)) [
       | inl was ↦ inl (λ f p. elim (one_place f p file page) [
         | inl same ↦ at_it f p image same.0 same.1 was
         | inr other ↦ elsewhere f p other
-        ])
+      ])
       | inr put ↦
-        let before : Image = with_page image file page (seen file page) in
-        inr (before, (λ f p. elim (one_place f p file page) [
-          | inl same ↦ at_it f p before same.0 same.1 (let Q : List ℕ → Type 0 = old file page in subst Q (sym (with_page-here image file page (seen file page))) (read file page))
-          | inr other ↦ let Q : List ℕ → Type 0 = old f p in subst Q (sym (with_page-other image file page (seen file page) f p other)) (elsewhere f p other)
-          ]), same_image image (with_page before file page content) (λ f p. elim (one_place f p file page) [
-          | inl same ↦ (let Q : ℕ → ℕ → Type 0 = λ m n. image m n ≡ content in subst₂ Q (sym same.0) (sym same.1) put.2) ∙ sym (with_page-at before file page content f p same.0 same.1)
-          | inr other ↦ sym (with_page-other image file page (seen file page) f p other) ∙ sym (with_page-other before file page content f p other)
-          ]))
-      ]
+          let before : Image = with_page image file page (seen file page) in
+          inr (
+            before,
+            (λ f p. elim (one_place f p file page) [
+              | inl same ↦ at_it f p before same.0 same.1 (let Q : List ℕ → Type 0 = old file page in subst Q (sym (with_page-here image file page (seen file page))) (read file page))
+              | inr other ↦ let Q : List ℕ → Type 0 = old f p in subst Q (sym (with_page-other image file page (seen file page) f p other)) (elsewhere f p other)
+            ]),
+            same_image image (with_page before file page content) (λ f p. elim (one_place f p file page) [
+              | inl same ↦ (let Q : ℕ → ℕ → Type 0 = λ m n. image m n ≡ content in subst₂ Q (sym same.0) (sym same.1) put.2) ∙ sym (with_page-at before file page content f p same.0 same.1)
+              | inr other ↦ sym (with_page-other image file page (seen file page) f p other) ∙ sym (with_page-other before file page content f p other)
+            ]),
+          )
+    ]
 
 -- a write more: what a crash could leave has P once the content is on the page
 pub writes : {T E : Type 0} (file page : ℕ) (content : List ℕ) (result : Result T E) (from mid to : ℕ) (past between since : ℕ → Choices) (P : Image → Type 0) (seen : Image)
@@ -79,7 +83,7 @@ writes file page content result from mid to past between since P seen told so_fa
     goes_on from mid to past between since P so_far call (λ image left. elim (write_follows file page content result (between mid) (since to) seen told adds image left) [
       | inl before ↦ so_far.each mid so_far.later (omega arith) image before
       | inr put ↦ subst P (sym put.2) (with_it put.0 put.1)
-      ])
+    ])
 
 -- a write more, of a page that P allows on each image that has P
 pub writes_too : {T E : Type 0} (file page : ℕ) (content : List ℕ) (result : Result T E) (from mid to : ℕ) (past between since : ℕ → Choices) (P : Image → Type 0) (seen : Image)
@@ -96,7 +100,7 @@ joins from mid to past between since P first next = record {
   each = λ t above below image left. elim (cases_lt mid t) [
     | inl after ↦ next.each t (omega arith) below image left
     | inr within ↦ first.each t above within image (left-before (between t) (since t) image (next.before t within).no_more left)
-    ];
+  ];
   before = λ t le. same-trans (past t) (between t) (since t) (first.before t le) (next.before t (omega (arith, le, first.later)));
 }
 

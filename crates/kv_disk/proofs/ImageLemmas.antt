@@ -19,16 +19,16 @@ one_place f p file page = elim (cases_eq f file) [
   | inl same_file ↦ elim (cases_eq p page) [
     | inl same_page ↦ inl (same_file, same_page)
     | inr other ↦ inr (λ _ same. other same)
-    ]
-  | inr other ↦ inr (λ same _. other same)
   ]
+  | inr other ↦ inr (λ same _. other same)
+]
 
 -- the test for a page is false at another
 pub test-other : (f p file page : ℕ) → (f ≡ file → p ≡ page → ⊥) → (eqb f file && eqb p page) ≡ false
 test-other f p file page other = elim (cases_eq f file) [
   | inl same ↦ and_right (eqb f file) (eqb p page) (ne_eqb p page (other same))
   | inr differ ↦ and_left (eqb f file) (eqb p page) (ne_eqb f file differ)
-  ]
+]
 
 -- the test for a page is true at it
 pub test-at : (f p file page : ℕ) → f ≡ file → p ≡ page → (eqb f file && eqb p page) ≡ true

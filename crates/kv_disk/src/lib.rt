@@ -2,5 +2,7 @@
 #![tactic(auto)]
 
 mod disk;
+mod plain;
 
 pub use disk::Disk;
+pub use plain::PlainDisk;

@@ -1,0 +1,4 @@
+pub mod Cut
+pub mod View
+pub mod Reading
+pub mod Parse

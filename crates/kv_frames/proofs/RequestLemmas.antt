@@ -81,11 +81,19 @@ request_is_found bytes content found request rest begins is p =
     let both : Some found ≡ Some request = is ∙ read.0 in
     (cc, omega (arith, read.1))
 
-pub request_not_found : (bytes content : List ℕ) (request : Request) (rest : List ℕ) → BeginsWithContent bytes content → None ≡ request_in content → BeginsWithRequest bytes request rest → ⊥
-request_not_found bytes content request rest begins is p =
-    let read = read_found Request request_content HasRequestBody request_in request_code bytes content request rest begins (request_begins bytes request rest p) in
-    let both : None ≡ Some request = is ∙ read.0 in
-    cc
+-- a content that is no request's makes the bytes malformed
+pub request_is_malformed : (bytes content : List ℕ) → BeginsWithContent bytes content → None ≡ request_in content → IsMalformed bytes
+request_is_malformed bytes content begins is =
+    let within = content_within bytes content begins in
+    let stated = stated_length-framed content (drop (4 + length content) bytes) bytes (omega (arith, begins.most)) begins.parts in
+    record {
+      length_there = omega arith;
+      all_there = λ some most. omega (arith, within, stated);
+      none = λ request rest p.
+        let read = read_found Request request_content HasRequestBody request_in request_code bytes content request rest begins (request_begins bytes request rest p) in
+        let both : None ≡ Some request = is ∙ read.0 in
+        absurd cc;
+    }
 
 pub request_out_of_range : (bytes : List ℕ) → IsOutOfRange bytes → BeginsWithNoRequest bytes
 request_out_of_range bytes out request rest p =

@@ -2,3 +2,4 @@ pub mod Cut
 pub mod View
 pub mod Reading
 pub mod Parse
+pub mod Laws

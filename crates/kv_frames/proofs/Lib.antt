@@ -1,0 +1,3 @@
+pub mod FramingLemmas
+pub mod CodeLemmas
+pub mod RequestLemmas

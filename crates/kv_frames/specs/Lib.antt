@@ -1,0 +1,5 @@
+pub mod Cut
+pub mod View
+pub mod Reading
+pub mod Parse
+pub mod Laws

@@ -1,0 +1,12 @@
+//! What stands in a slot and on the head page: read from the bytes of a page, and written into them.
+#![tactic(auto)]
+
+mod address;
+mod class;
+mod numbers;
+mod overwrite;
+mod small;
+
+pub use address::spot;
+pub use class::class_of;
+pub use small::{Slot, read_fitting};

@@ -9,4 +9,4 @@ mod small;
 
 pub use address::spot;
 pub use class::class_of;
-pub use small::{Slot, read_fitting};
+pub use small::{Slot, put_fitting, read_fitting};

@@ -1,9 +1,13 @@
-ghost use Rattle.std.specs.Prelude.{◌≡◌, ℕ, ◌+◌, ◌-◌, ◌<◌, ◌≤◌, true, take, drop, length};
+ghost use Rattle.std.specs.Prelude.{◌≡◌, ℕ, ◌+◌, ◌-◌, ◌^◌, ◌<◌, ◌≤◌, true, ◌++◌, take, drop, length};
 ghost use Rattle.kv_model.specs.Layout.{only_class, room_of, slot_size};
 ghost use Rattle.kv_model.specs.Slots.{read_small, read_item, link_named};
+ghost use Rattle.kv_model.specs.Padding.{padded};
+ghost use Rattle.kv_model.specs.SlotBytes.{header_bytes, item_header, item_bytes};
+ghost use Rattle.kv_slot.specs.Overwrite.{overwritten};
 ghost use Rattle.kv_slot.specs.Views.{what_stands};
 
 use crate::numbers::{u16_at, u32_at, u64_at};
+use crate::overwrite::{clear_from, put_at};
 
 const HEADER: usize = 16;
 
@@ -126,4 +130,48 @@ fn item_of<'a>(
         key,
         value: &rest[..value_len],
     }
+}
+
+/// Writes an item into the slot of this class, 1 to 7, at the offset: its key has 1 to 255 bytes, and the
+/// slot's room holds key and value. The rest of the slot is zeros, and all bytes outside it stay.
+pub fn put_fitting(
+    page: &mut [u8; 4096],
+    class: u8,
+    offset: u32,
+    stamp: u64,
+    key: &[u8],
+    value: &[u8],
+)
+    requires class { (1 ≤ class) × (class ≤ 7) }
+    requires within { offset + slot_size class ≤ 4096 }
+    requires key { (1 ≤ length key.now) × (length key.now ≤ 255) }
+    requires fits { length key.now + length value.now ≤ room_of class }
+    ensures { page.new ≡ overwritten page.old offset (item_bytes class stamp key.now value.now) }
+{
+    let begin = offset as usize;
+    let size = slot_size(class);
+    fill_item(&mut page[begin..begin + size], stamp, key, value);
+}
+
+fn fill_item(slot: &mut [u8], stamp: u64, key: &[u8], value: &[u8])
+    requires key { length key.now ≤ 255 }
+    requires fits { length key.now + length value.now + 16 ≤ length slot.old }
+    requires slot { length slot.old ≤ 4096 }
+    ensures { slot.new ≡ padded (length slot.old) (item_header stamp key.now value.now ++ key.now ++ value.now) }
+{
+    put_header(slot, stamp, ITEM, key.len() as u16, value.len() as u32);
+    put_at(slot, HEADER, key);
+    put_at(slot, HEADER + key.len(), value);
+    clear_from(slot, HEADER + key.len() + value.len());
+}
+
+/// Writes a header to the front of the slot.
+pub fn put_header(slot: &mut [u8], stamp: u64, kind: u16, key_len: u16, last: u32)
+    requires { 16 ≤ length slot.old }
+    ensures { slot.new ≡ header_bytes stamp kind key_len last ++ drop 16 slot.old }
+{
+    put_at(slot, 0, &stamp.to_le_bytes());
+    put_at(slot, 8, &kind.to_le_bytes());
+    put_at(slot, 10, &key_len.to_le_bytes());
+    put_at(slot, 12, &last.to_le_bytes());
 }

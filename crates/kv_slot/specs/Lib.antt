@@ -1,2 +1,3 @@
 pub mod Overwrite
 pub mod Views
+pub mod Heads

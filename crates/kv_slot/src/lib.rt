@@ -3,10 +3,12 @@
 
 mod address;
 mod class;
+mod head;
 mod numbers;
 mod overwrite;
 mod small;
 
 pub use address::spot;
 pub use class::class_of;
+pub use head::{HeadRead, put_head, read_head};
 pub use small::{Slot, put_fitting, read_fitting};

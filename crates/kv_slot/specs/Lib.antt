@@ -1,0 +1,3 @@
+pub mod Overwrite
+pub mod Views
+pub mod Heads

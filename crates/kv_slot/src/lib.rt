@@ -1,0 +1,14 @@
+//! What stands in a slot and on the head page: read from the bytes of a page, and written into them.
+#![tactic(auto)]
+
+mod address;
+mod class;
+mod head;
+mod numbers;
+mod overwrite;
+mod small;
+
+pub use address::spot;
+pub use class::class_of;
+pub use head::{HeadRead, put_head, read_head};
+pub use small::{Slot, put_fitting, read_fitting};

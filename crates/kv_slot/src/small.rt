@@ -1,0 +1,177 @@
+ghost use Rattle.std.specs.Prelude.{◌≡◌, ℕ, ◌+◌, ◌-◌, ◌^◌, ◌<◌, ◌≤◌, true, ◌++◌, take, drop, length};
+ghost use Rattle.kv_model.specs.Layout.{only_class, room_of, slot_size};
+ghost use Rattle.kv_model.specs.Slots.{read_small, read_item, link_named};
+ghost use Rattle.kv_model.specs.Padding.{padded};
+ghost use Rattle.kv_model.specs.SlotBytes.{header_bytes, item_header, item_bytes};
+ghost use Rattle.kv_slot.specs.Overwrite.{overwritten};
+ghost use Rattle.kv_slot.specs.Views.{what_stands};
+
+use crate::numbers::{u16_at, u32_at, u64_at};
+use crate::overwrite::{clear_from, put_at};
+
+const HEADER: usize = 16;
+
+const NEVER: u16 = 0;
+
+const ITEM: u16 = 1;
+
+const TOMBSTONE: u16 = 2;
+
+const LONGEST_KEY: usize = 255;
+
+/// What stands in a slot of the classes 1 to 7. Key and value lie in the page that was read.
+#[derive(Clone, Copy, Debug, PartialEq, Eq)]
+pub enum Slot<'a> {
+    /// Nothing was ever written there.
+    Never {
+        /// The number in the slot's stamp field.
+        stamp: u64,
+    },
+    /// An item.
+    Item {
+        /// The stamp of its write.
+        stamp: u64,
+        /// The key, 1 to 255 bytes.
+        key: &'a [u8],
+        /// The value.
+        value: &'a [u8],
+    },
+    /// The slot is free.
+    Tombstone {
+        /// The stamp of the change that freed it.
+        stamp: u64,
+        /// The free slot that it links to.
+        link: Option<u32>,
+    },
+    /// Bytes that no call of this crate writes.
+    Bad {
+        /// The number in the slot's stamp field.
+        stamp: u64,
+    },
+}
+
+/// The bytes of a slot of this class, 1 to 7.
+pub fn slot_size(class: u8) -> usize
+    requires class { (1 ≤ class) × (class ≤ 7) }
+    ensures value { result ≡ slot_size class }
+    ensures room { room_of class + 16 ≡ result }
+    ensures range { (64 ≤ result) × (result ≤ 4096) }
+{
+    match class {
+        1 => 64,
+        2 => 128,
+        3 => 256,
+        4 => 512,
+        5 => 1_024,
+        6 => 2_048,
+        _ => 4_096,
+    }
+}
+
+/// What stands in the slot of this class, 1 to 7, at the offset, in a store that has no other class: an
+/// item is one where the slot's room holds it.
+pub fn read_fitting<'a>(page: &'a [u8; 4096], class: u8, offset: u32) -> Slot<'a>
+    requires class { (1 ≤ class) × (class ≤ 7) }
+    requires within { offset + slot_size class ≤ 4096 }
+    ensures { what_stands result ≡ read_small (only_class class) class (take (slot_size class) (drop offset page.now)) }
+{
+    let begin = offset as usize;
+    let size = slot_size(class);
+    read_bytes(&page[begin..begin + size], class)
+}
+
+#[tactic(auto, unfolding(kv_model::specs::Slots::read_small))]
+fn read_bytes<'a>(slot: &'a [u8], class: u8) -> Slot<'a>
+    requires class { (1 ≤ class) × (class ≤ 7) }
+    requires size { length slot.now ≡ slot_size class }
+    requires room { length slot.now ≡ room_of class + 16 }
+    ensures { what_stands result ≡ read_small (only_class class) class slot.now }
+{
+    let (header, content) = slot.split_at(HEADER);
+    let stamp = u64_at(header);
+    match u16_at(&header[8..]) {
+        NEVER => Slot::Never { stamp },
+        ITEM => {
+            let key_len = u16_at(&header[10..]) as usize;
+            let value_len = u32_at(&header[12..]) as usize;
+            item_of(class, stamp, key_len, value_len, content)
+        }
+        TOMBSTONE => Slot::Tombstone {
+            stamp,
+            link: link_in(u32_at(&header[12..])),
+        },
+        _ => Slot::Bad { stamp },
+    }
+}
+
+fn link_in(field: u32) -> Option<u32>
+    ensures { result ≡ link_named field }
+{
+    field.checked_sub(1)
+}
+
+fn item_of<'a>(
+    class: u8,
+    stamp: u64,
+    key_len: usize,
+    value_len: usize,
+    content: &'a [u8],
+) -> Slot<'a>
+    requires room { length content.now ≡ room_of class }
+    requires fits { key_len + value_len < 2 ^ 64 }
+    ensures { what_stands result ≡ read_item (only_class class) class stamp key_len value_len content.now true }
+{
+    if key_len < 1 || key_len > LONGEST_KEY || key_len + value_len > content.len() {
+        return Slot::Bad { stamp };
+    }
+    let (key, rest) = content.split_at(key_len);
+    Slot::Item {
+        stamp,
+        key,
+        value: &rest[..value_len],
+    }
+}
+
+/// Writes an item into the slot of this class, 1 to 7, at the offset: its key has 1 to 255 bytes, and the
+/// slot's room holds key and value. The rest of the slot is zeros, and all bytes outside it stay.
+pub fn put_fitting(
+    page: &mut [u8; 4096],
+    class: u8,
+    offset: u32,
+    stamp: u64,
+    key: &[u8],
+    value: &[u8],
+)
+    requires class { (1 ≤ class) × (class ≤ 7) }
+    requires within { offset + slot_size class ≤ 4096 }
+    requires key { (1 ≤ length key.now) × (length key.now ≤ 255) }
+    requires fits { length key.now + length value.now ≤ room_of class }
+    ensures { page.new ≡ overwritten page.old offset (item_bytes class stamp key.now value.now) }
+{
+    let begin = offset as usize;
+    let size = slot_size(class);
+    fill_item(&mut page[begin..begin + size], stamp, key, value);
+}
+
+fn fill_item(slot: &mut [u8], stamp: u64, key: &[u8], value: &[u8])
+    requires key { length key.now ≤ 255 }
+    requires fits { length key.now + length value.now + 16 ≤ length slot.old }
+    requires slot { length slot.old ≤ 4096 }
+    ensures { slot.new ≡ padded (length slot.old) (item_header stamp key.now value.now ++ key.now ++ value.now) }
+{
+    put_header(slot, stamp, ITEM, key.len() as u16, value.len() as u32);
+    put_at(slot, HEADER, key);
+    put_at(slot, HEADER + key.len(), value);
+    clear_from(slot, HEADER + key.len() + value.len());
+}
+
+/// Writes a header to the front of the slot.
+pub fn put_header(slot: &mut [u8], stamp: u64, kind: u16, key_len: u16, last: u32)
+    requires { 16 ≤ length slot.old }
+    ensures { slot.new ≡ header_bytes stamp kind key_len last ++ drop 16 slot.old }
+{
+    put_at(slot, 0, &stamp.to_le_bytes());
+    put_at(slot, 8, &kind.to_le_bytes());
+    put_at(slot, 10, &key_len.to_le_bytes());
+    put_at(slot, 12, &last.to_le_bytes());
+}

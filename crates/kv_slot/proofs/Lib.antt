@@ -1,2 +1,3 @@
 pub mod OverwriteLemmas
+pub mod SlotLemmas
 pub mod HeadLemmas

@@ -1,2 +1,4 @@
 pub mod OverwriteLemmas
+pub mod SlotLemmas
 pub mod HeadLemmas
+pub mod AgainLemmas

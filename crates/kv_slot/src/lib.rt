@@ -4,11 +4,16 @@
 mod address;
 mod class;
 mod head;
+mod header;
+mod laws;
 mod numbers;
 mod overwrite;
 mod small;
+mod tombstone;
 
 pub use address::spot;
 pub use class::class_of;
 pub use head::{HeadRead, put_head, read_head};
-pub use small::{Slot, put_fitting, read_fitting};
+pub use laws::slots_read_again;
+pub use small::{Slot, put_fitting, put_item, read_fitting, read_slot};
+pub use tombstone::{link_of, page_stamp, put_tombstone};

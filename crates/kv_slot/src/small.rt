@@ -1,21 +1,16 @@
 ghost use Rattle.std.specs.Prelude.{◌≡◌, ℕ, ◌+◌, ◌-◌, ◌^◌, ◌<◌, ◌≤◌, true, ◌++◌, take, drop, length};
-ghost use Rattle.kv_model.specs.Layout.{only_class, room_of, slot_size};
-ghost use Rattle.kv_model.specs.Slots.{read_small, read_item, link_named};
+ghost use Rattle.kv_model.specs.Layout.{all_classes, class_of, only_class, room_of, slot_size};
+ghost use Rattle.kv_model.specs.Slots.{read_small, read_item};
 ghost use Rattle.kv_model.specs.Padding.{padded};
-ghost use Rattle.kv_model.specs.SlotBytes.{header_bytes, item_header, item_bytes};
+ghost use Rattle.kv_model.specs.SlotBytes.{item_header, item_bytes};
 ghost use Rattle.kv_slot.specs.Overwrite.{overwritten};
-ghost use Rattle.kv_slot.specs.Views.{what_stands};
+ghost use Rattle.kv_slot.specs.Views.{what_stands, of_least_class};
 
+use crate::class::class_of;
+use crate::header::{HEADER, ITEM, NEVER, TOMBSTONE, put_header};
 use crate::numbers::{u16_at, u32_at, u64_at};
 use crate::overwrite::{clear_from, put_at};
-
-const HEADER: usize = 16;
-
-const NEVER: u16 = 0;
-
-const ITEM: u16 = 1;
-
-const TOMBSTONE: u16 = 2;
+use crate::tombstone::link_in;
 
 const LONGEST_KEY: usize = 255;
 
@@ -104,12 +99,6 @@ fn read_bytes<'a>(slot: &'a [u8], class: u8) -> Slot<'a>
     }
 }
 
-fn link_in(field: u32) -> Option<u32>
-    ensures { result ≡ link_named field }
-{
-    field.checked_sub(1)
-}
-
 fn item_of<'a>(
     class: u8,
     stamp: u64,
@@ -129,6 +118,27 @@ fn item_of<'a>(
         stamp,
         key,
         value: &rest[..value_len],
+    }
+}
+
+/// What stands in the slot of this class, 1 to 7, at the offset, in a store that has the classes 1 to 11:
+/// an item is one where this is the least class that holds it.
+pub fn read_slot<'a>(page: &'a [u8; 4096], class: u8, offset: u32) -> Slot<'a>
+    requires class { (1 ≤ class) × (class ≤ 7) }
+    requires within { offset + slot_size class ≤ 4096 }
+    ensures { what_stands result ≡ read_small all_classes class (take (slot_size class) (drop offset page.now)) }
+{
+    of_least_class(read_fitting(page, class, offset), class)
+}
+
+fn of_least_class<'a>(slot: Slot<'a>, class: u8) -> Slot<'a>
+    ensures { what_stands result ≡ of_least_class class (what_stands slot.entry) }
+{
+    match slot {
+        Slot::Item { stamp, key, value } if class_of(key.len(), value.len()) != Some(class) => {
+            Slot::Bad { stamp }
+        }
+        slot => slot,
     }
 }
 
@@ -153,6 +163,24 @@ pub fn put_fitting(
     fill_item(&mut page[begin..begin + size], stamp, key, value);
 }
 
+/// Writes an item of this class, 1 to 7, into its slot at the offset. The rest of the slot is zeros, and
+/// all bytes outside it stay.
+pub fn put_item(
+    page: &mut [u8; 4096],
+    class: u8,
+    offset: u32,
+    stamp: u64,
+    key: &[u8],
+    value: &[u8],
+)
+    requires class { (1 ≤ class) × (class ≤ 7) }
+    requires within { offset + slot_size class ≤ 4096 }
+    requires item { class_of all_classes (length key.now) (length value.now) ≡ Some class }
+    ensures { page.new ≡ overwritten page.old offset (item_bytes class stamp key.now value.now) }
+{
+    put_fitting(page, class, offset, stamp, key, value);
+}
+
 fn fill_item(slot: &mut [u8], stamp: u64, key: &[u8], value: &[u8])
     requires key { length key.now ≤ 255 }
     requires fits { length key.now + length value.now + 16 ≤ length slot.old }
@@ -163,15 +191,4 @@ fn fill_item(slot: &mut [u8], stamp: u64, key: &[u8], value: &[u8])
     put_at(slot, HEADER, key);
     put_at(slot, HEADER + key.len(), value);
     clear_from(slot, HEADER + key.len() + value.len());
-}
-
-/// Writes a header to the front of the slot.
-pub fn put_header(slot: &mut [u8], stamp: u64, kind: u16, key_len: u16, last: u32)
-    requires { 16 ≤ length slot.old }
-    ensures { slot.new ≡ header_bytes stamp kind key_len last ++ drop 16 slot.old }
-{
-    put_at(slot, 0, &stamp.to_le_bytes());
-    put_at(slot, 8, &kind.to_le_bytes());
-    put_at(slot, 10, &key_len.to_le_bytes());
-    put_at(slot, 12, &last.to_le_bytes());
 }

@@ -1,6 +1,6 @@
 -- Each field is put behind the one before.
 use Rattle.kv_slot.proofs.OverwriteLemmas.{header_put}
-use Rattle.kv_slot.proofs.small.put_header.Goals as goal
+use Rattle.kv_slot.proofs.header.put_header.Goals as goal
 
 pub returns : goal.returns
 returns c =

@@ -2,4 +2,3 @@ pub mod Cut
 pub mod View
 pub mod Reading
 pub mod Parse
-pub mod Laws

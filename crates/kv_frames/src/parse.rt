@@ -7,7 +7,6 @@ ghost use Rattle.kv_frames.specs.Reading.{put_in, request_in};
 ghost use Rattle.kv_frames.specs.Parse.{IsParsed, IsFound};
 
 use crate::cut::{Front, cut_front};
-use crate::kind;
 use crate::view::{Parsed, RequestView};
 
 /// Parses the request that the bytes begin with, as the document of the protocol lays frames out. Takes no memory
@@ -36,8 +35,8 @@ fn view_request(content: &[u8]) -> Option<RequestView<'_>>
     ensures { option_map request_of result ≡ request_in content.now }
 {
     match content {
-        [kind::PUT, key_length, rest @ ..] => view_put(*key_length as usize, rest),
-        [kind::GET, key @ ..] => Some(RequestView::Get { key }),
+        [1, key_length, rest @ ..] => view_put(*key_length as usize, rest),
+        [2, key @ ..] => Some(RequestView::Get { key }),
         _ => None,
     }
 }

@@ -1,0 +1,4 @@
+pub mod PagesLemmas
+pub mod ItemLemmas
+pub mod HistoryLemmas
+pub mod StoreLemmas

@@ -1,0 +1,6 @@
+pub mod Pages
+pub mod Causes
+pub mod Placed
+pub mod Content
+pub mod Store
+pub mod Open

@@ -1,0 +1,56 @@
+-- The plain store: one page for each key, in class 7.
+use Rattle.std.specs.Prelude.{◌≡◌, ℕ, ◌+◌, ◌<◌, ◌≤◌, ◌↔◌, ◌||◌, List, ◌++◌, Option, None, Some, Bool, true, false, IsTrue, IfSome, ⊤}
+use Rattle.std.specs.List.{AllByRecursion}
+use Rattle.std.specs.Option.{option_to_list}
+use Rattle.kv_base.specs.Image.{Image}
+use Rattle.kv_base.specs.Calls.{next_count}
+use Rattle.kv_base.specs.declared.request.Request.{Request}
+use Rattle.kv_base.specs.declared.reply.Reply.{Reply}
+use Rattle.kv_base.specs.declared.reply.Reply.TheVariants.{Stored, Found, Missing, BadKey, TooLarge, Full, NoMemory, DiskFault, Unsure, Closed, Malformed}
+use Rattle.kv_model.specs.History.{Write, value_at}
+use Rattle.kv_model.specs.Layout.{only_class}
+use Rattle.kv_model.specs.Pairs.{acknowledged_by, stamp_of}
+use Rattle.kv_model.specs.Agreement.{IsAnswer, refusal_of}
+use Rattle.kv_serve.specs.Pages.{place_of}
+use Rattle.kv_serve.specs.Content.{ReadsAs}
+use Rattle.kv_serve.specs.Causes.{RoseBy, is_unsure, faults_told, IsFullAtLimit}
+use Rattle.kv_disk.specs.declared.disk.Disk.{Ghosts}
+use Rattle.kv_serve.specs.declared.store.Store.{Store}
+
+-- the key's page has the value, where the disk tells; a key without a page has none
+abbrev pub Keeps : Bool → Image → Option ℕ → List ℕ → Option (List ℕ) → Type 0
+Keeps told image None key value = value ≡ None
+Keeps told image (Some page) key None = ⊥
+Keeps told image (Some page) key (Some value) = IsTrue told → ReadsAs (image 7 page) key value
+
+-- the store has what the history gives each key now and later, as long as it isn't closed
+pub record Holds {D : Type 0} {d : Ghosts D} (store : Store D d) (history : List Write) : Type 0 where
+  pub below : AllByRecursion (λ write. write.stamp < store.next) history
+  pub kept : store.closed ≡ false → (key : List ℕ) (stamp : ℕ) → store.next ≤ stamp + 1
+    → Keeps d.tells (d.seen store.disk) (place_of store.pages key) key (value_at history stamp key)
+
+-- the device calls that the reply took
+abbrev pub TakesCalls : Reply → ℕ → ℕ → Type 0
+TakesCalls (Stored stamp) before now = now ≡ next_count (next_count before)
+TakesCalls (Found stamp value) before now = now ≡ next_count before
+TakesCalls (Missing stamp) before now = now ≡ before
+TakesCalls BadKey before now = now ≡ before
+TakesCalls TooLarge before now = now ≡ before
+TakesCalls (Full class) before now = now ≡ before
+TakesCalls NoMemory before now = ⊤
+TakesCalls DiskFault before now = now ≡ next_count before
+TakesCalls (Unsure stamp) before now = ⊤
+TakesCalls Closed before now = now ≡ before
+TakesCalls (Malformed offset) before now = ⊥
+
+-- one request and its reply lead from one store to another
+pub record Steps {D : Type 0} {d : Ghosts D} (old : Store D d) (request : Request) (reply : Reply) (new : Store D d) : Type 0 where
+  pub answers : (history : List Write) → Holds old history → IsAnswer d.tells (only_class 7) history request reply
+  pub holds : (history : List Write) → Holds old history → Holds new (history ++ option_to_list (acknowledged_by request reply))
+  pub full : (history : List Write) → Holds old history → IsFullAtLimit history reply
+  pub stamped : IfSome (stamp_of reply) (λ stamp. (old.next ≤ stamp) × (stamp < new.next))
+  pub later : old.next ≤ new.next
+  pub closes : (reply ≡ Closed) ↔ ((old.closed ≡ true) × (refusal_of (only_class 7) request ≡ None))
+  pub closing : new.closed ≡ (old.closed || is_unsure reply)
+  pub cause : RoseBy (faults_told reply) (d.faults old.disk) (d.faults new.disk)
+  pub taken : TakesCalls reply (d.calls old.disk) (d.calls new.disk)

@@ -1,8 +1,9 @@
 -- Lemmas on what a session took and gave.
-use Rattle.std.proofs.Common.{◌≡◌, ℕ, ◌+◌, ◌≤◌, List, [], ◌∷◌, ◌++◌, length, Option, None, Some, refl, sym, ap, ◌∙◌, arith, append_assoc, length-append}
-use Rattle.std.proofs.lemmas.List.{append-nil}
+use Rattle.std.proofs.Common.{◌≡◌, ℕ, ◌+◌, ◌-◌, ◌≤◌, take, drop, false, List, [], ◌∷◌, ◌++◌, length, Option, None, Some, refl, sym, ap, subst, ◌∙◌, arith, append_assoc, length-append}
+use Rattle.std.proofs.lemmas.List.{append-nil, take_at, drop_at, take-take, take-append-drop, take-append-le, drop-take, drop-append-le, length-take-le, take_rest}
 use Rattle.kv_base.specs.Stream.{Stream, Passes, Takes}
-use Rattle.kv_serve.specs.Session.{Arrives}
+use Rattle.kv_model.specs.Frames.{BeginsWithNoRequest, IsMalformed}
+use Rattle.kv_serve.specs.Session.{SessionState, Arrives, HasRequest, GoesOn, NeedsMore, StaysDecided}
 
 pub Passes-nil : (now : Option Stream) → Passes now now []
 Passes-nil None = tt
@@ -48,3 +49,37 @@ Arrives-trans {a = a} {b = b} {c = c} {x = x} p q = record {
   behind = q.behind ∙ ap (λ (waiting : List ℕ). waiting ++ q.bytes) p.behind ∙ append_assoc x p.bytes q.bytes;
   counted = omega (arith, q.counted, p.counted, length-append p.bytes q.bytes);
 }
+
+-- a session that needed more bytes stayed as it was only where nothing was decided
+pub StaysDecided-more : {So Si : Type 0} {old mid new : SessionState So Si} → StaysDecided old mid → NeedsMore mid.waiting mid.ended mid.taken → StaysDecided old new
+StaysDecided-more {So = So} {Si = Si} stays more = record {
+  front = λ h.
+    let none = subst (λ (s : SessionState So Si). BeginsWithNoRequest s.waiting) (stays.front h) more.undecided.none in
+    absurd (none h.request h.rest h.begins);
+  bad = λ h.
+    let good = subst (λ (s : SessionState So Si). IsMalformed s.waiting → ⊥) (stays.bad h) more.undecided.good in
+    absurd (good h);
+  ended = λ h.
+    let goes_on = subst (λ (s : SessionState So Si). s.ended ≡ false) (stays.ended h) more.undecided.goes_on in
+    absurd cc;
+}
+
+-- the bytes up to m + n of two lists, where the first has m
+pub take_into : (xs ys : List ℕ) (m n : ℕ) → length xs ≡ m → take (m + n) (xs ++ ys) ≡ xs ++ take n ys
+take_into xs ys m n e =
+    sym (take-append-drop m (take (m + n) (xs ++ ys)))
+    ∙ rw (take-take m (m + n) (xs ++ ys) (omega arith), drop-take m n (xs ++ ys), take_at xs ys m e, drop_at xs ys m e) refl
+
+-- the bytes of a window after a read behind them
+pub window_grows : (start end n : ℕ) (buffer front behind : List ℕ) → start ≤ end → end ≤ length buffer → n ≤ length front → drop start (take (end + n) (take end buffer ++ (front ++ behind))) ≡ drop start (take end buffer) ++ take n front
+window_grows start end n buffer front behind order within fits =
+    let size : length (take end buffer) ≡ end = length-take-le end buffer within in
+    rw (take_into (take end buffer) (front ++ behind) end n size, take-append-le n front behind fits)
+    (drop-append-le start (take end buffer) (take n front) (omega arith))
+
+-- a sink took the front of some bytes, and then the next of them
+pub Takes-more : (a b c : Option (List ℕ)) (sent n : ℕ) (bytes : List ℕ) → Takes a b (take sent bytes) → Takes b c (take n (drop sent bytes)) → Takes a c (take (sent + n) bytes)
+Takes-more a b c sent n bytes p q =
+    let e : take sent bytes ++ take n (drop sent bytes) ≡ take (sent + n) bytes =
+        sym (sym (take-append-drop sent (take (sent + n) bytes)) ∙ rw (take-take sent (sent + n) bytes (omega arith), drop-take sent n bytes) refl) in
+    subst (λ (xs : List ℕ). Takes a c xs) e (Takes-trans a b c (take sent bytes) (take n (drop sent bytes)) p q)

@@ -39,8 +39,9 @@ impl<So: Source, Si: Sink> Session<So, Si> {
         ensures kept { StaysDecided self.old self.new }
     {
         loop {
-            if let Some(ready) = self.look() {
-                return ready;
+            match self.look() {
+                Some(ready) => return ready,
+                None => {}
             }
             match self.read_more() {
                 Ok(()) => {}

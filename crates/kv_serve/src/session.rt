@@ -96,15 +96,15 @@ impl<So: Source, Si: Sink> Session<So, Si> {
     }
 
     /// Uses up the first bytes.
-    pub fn pass(&mut self, length: usize)
-        requires { length ≤ length self.old.waiting }
-        ensures waiting { self.new.waiting ≡ drop length self.old.waiting }
+    pub fn pass(&mut self, used: usize)
+        requires { used ≤ length self.old.waiting }
+        ensures waiting { self.new.waiting ≡ drop used self.old.waiting }
         ensures source { self.new.source ≡ self.old.source }
         ensures sink { self.new.sink ≡ self.old.sink }
         ensures taken { self.new.taken ≡ self.old.taken }
         ensures ended { self.new.ended ≡ self.old.ended }
     {
-        self.window.pass(length);
+        self.window.pass(used);
     }
 
     /// Reads once. It takes never more than 2^40 bytes in all.
@@ -121,10 +121,14 @@ impl<So: Source, Si: Sink> Session<So, Si> {
         ensures cause { HasCause (So.faults self.old.source) (So.faults self.new.source) result }
     {
         let left = (MOST_TAKEN - self.taken) as usize;
-        let n = self.window.read_from(&mut self.source, left)?;
-        self.taken += n as u64;
-        self.ended = n == 0;
-        Ok(())
+        match self.window.read_from(&mut self.source, left) {
+            Ok(n) => {
+                self.taken += n as u64;
+                self.ended = n == 0;
+                Ok(())
+            }
+            Err(Failed) => Err(Failed),
+        }
     }
 
     /// Writes the reply's frame: in one call of the sink, and more calls only for what a short write

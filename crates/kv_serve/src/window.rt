@@ -1,4 +1,4 @@
-ghost use Rattle.std.specs.Prelude.{◌≡◌, ◌≤◌, ◌<◌, [], Ok, length, drop, MatchResult, IfOk};
+ghost use Rattle.std.specs.Prelude.{◌≡◌, ◌≤◌, ◌<◌, ◌-◌, [], Ok, length, take, drop, MatchResult, IfOk, vec_len};
 ghost use Rattle.kv_base.specs.Fault.{HasCause};
 ghost use Rattle.kv_base.specs.Stream.{IsSpent};
 ghost use Rattle.kv_serve.specs.Session.{Arrives};
@@ -52,11 +52,11 @@ impl Window {
     }
 
     /// Uses up the first bytes.
-    pub fn pass(&mut self, length: usize)
-        requires { length ≤ length self.old }
-        ensures { self.new ≡ drop length self.old }
+    pub fn pass(&mut self, used: usize)
+        requires { used ≤ length self.old }
+        ensures { self.new ≡ drop used self.old }
     {
-        self.start += length;
+        self.start += used;
     }
 
     /// Reads once behind the bytes, at most so many, and answers how many. It moves the bytes only
@@ -69,14 +69,33 @@ impl Window {
         ensures end { result ≡ Ok 0 → IsSpent (So.stream source.new) }
         ensures cause { HasCause (So.faults source.old) (So.faults source.new) result }
     {
-        if self.start == self.end || ROOM - self.end < LONGEST_FRAME {
-            self.buffer.copy_within(self.start..self.end, 0);
-            self.end -= self.start;
-            self.start = 0;
-        }
+        compact(&mut self.buffer, &mut self.start, &mut self.end);
         let room = most.min(ROOM - self.end);
-        let n = source.read(&mut self.buffer[self.end..self.end + room])?;
-        self.end += n;
-        Ok(n)
+        match source.read(&mut self.buffer[self.end..self.end + room]) {
+            Ok(n) => {
+                self.end += n;
+                Ok(n)
+            }
+            Err(Failed) => Err(Failed),
+        }
+    }
+}
+
+/// Moves the bytes to the front of the buffer where the room behind them is short, or where it takes
+/// nothing to move them.
+fn compact(buffer: &mut Vec<u8>, start: &mut usize, end: &mut usize)
+    requires order { start.old ≤ end.old }
+    requires within { end.old ≤ 132008 }
+    requires size { vec_len buffer.old ≡ 132008 }
+    requires short { end.old - start.old < 66004 }
+    ensures order { start.new ≤ end.new }
+    ensures within { end.new < 132008 }
+    ensures size { vec_len buffer.new ≡ 132008 }
+    ensures same { drop start.new (take end.new buffer.new.items) ≡ drop start.old (take end.old buffer.old.items) }
+{
+    if *start == *end || ROOM - *end < LONGEST_FRAME {
+        buffer.copy_within(*start..*end, 0);
+        *end -= *start;
+        *start = 0;
     }
 }

@@ -1,6 +1,6 @@
 -- Lemmas on what a session took and gave.
 use Rattle.std.proofs.Common.{◌≡◌, ℕ, ◌+◌, ◌-◌, ◌≤◌, take, drop, false, List, [], ◌∷◌, ◌++◌, length, Option, None, Some, refl, sym, ap, subst, ◌∙◌, arith, append_assoc, length-append}
-use Rattle.std.proofs.lemmas.List.{append-nil, take_at, drop_at, take-take, take-append-drop, take-append-le, drop-take, drop-append-le, length-take-le, take_rest}
+use Rattle.std.proofs.lemmas.List.{append-nil, take_at, drop_at, take-take, take-append-drop, take-append-le, drop-take, drop-append-le, length-take-le, length-take, length-drop, take_rest}
 use Rattle.kv_base.specs.Stream.{Stream, Passes, Takes}
 use Rattle.kv_model.specs.Frames.{BeginsWithNoRequest, IsMalformed}
 use Rattle.kv_serve.specs.Session.{SessionState, Arrives, HasRequest, GoesOn, NeedsMore, StaysDecided}
@@ -77,9 +77,20 @@ window_grows start end n buffer front behind order within fits =
     rw (take_into (take end buffer) (front ++ behind) end n size, take-append-le n front behind fits)
     (drop-append-le start (take end buffer) (take n front) (omega arith))
 
+-- the same, where the window's bytes and what its buffer holds now are known
+pub window_is : (start end n : ℕ) (items buffer front behind now : List ℕ) → items ≡ take end buffer ++ (front ++ behind) → drop start (take end buffer) ≡ now → start ≤ end → end ≤ length buffer → n ≤ length front → drop start (take (end + n) items) ≡ now ++ take n front
+window_is start end n items buffer front behind now e was order within fits =
+    rw (e, ← was) (window_grows start end n buffer front behind order within fits)
+
+-- a read into a part of a buffer leaves its length
+pub length-written : (end k : ℕ) (buffer front : List ℕ) → length front ≡ length (take k (drop end buffer)) → length (take end buffer ++ (front ++ drop k (drop end buffer))) ≡ length buffer
+length-written end k buffer front e =
+    omega (arith, e, length-append (take end buffer) (front ++ drop k (drop end buffer)), length-append front (drop k (drop end buffer)), length-take end buffer, length-take k (drop end buffer), length-drop end buffer, length-drop k (drop end buffer))
+
 -- a sink took the front of some bytes, and then the next of them
-pub Takes-more : (a b c : Option (List ℕ)) (sent n : ℕ) (bytes : List ℕ) → Takes a b (take sent bytes) → Takes b c (take n (drop sent bytes)) → Takes a c (take (sent + n) bytes)
-Takes-more a b c sent n bytes p q =
+pub Takes-more : (a b c : Option (List ℕ)) (sent n : ℕ) (bytes : List ℕ) → Takes a b (take sent bytes) → Takes b c (take n (take (length bytes - sent) (drop sent bytes))) → Takes a c (take (sent + n) bytes)
+Takes-more a b c sent n bytes p next =
+    let q : Takes b c (take n (drop sent bytes)) = subst (λ (xs : List ℕ). Takes b c (take n xs)) (take_rest bytes sent) next in
     let e : take sent bytes ++ take n (drop sent bytes) ≡ take (sent + n) bytes =
         sym (sym (take-append-drop sent (take (sent + n) bytes)) ∙ rw (take-take sent (sent + n) bytes (omega arith), drop-take sent n bytes) refl) in
     subst (λ (xs : List ℕ). Takes a c xs) e (Takes-trans a b c (take sent bytes) (take n (drop sent bytes)) p q)

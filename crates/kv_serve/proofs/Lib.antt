@@ -2,3 +2,4 @@ pub mod PagesLemmas
 pub mod ItemLemmas
 pub mod HistoryLemmas
 pub mod StoreLemmas
+pub mod SessionLemmas

@@ -4,3 +4,5 @@ pub mod Placed
 pub mod Content
 pub mod Store
 pub mod Open
+pub mod Session
+pub mod Run

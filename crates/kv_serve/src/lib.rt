@@ -10,3 +10,16 @@ mod place;
 mod put;
 mod sizes;
 mod store;
+mod ending;
+mod fill;
+mod runs;
+mod send;
+mod session;
+mod window;
+mod worker;
+
+pub use ending::{Ending, Endings, Finished};
+pub use fill::Ready;
+pub use runs::run;
+pub use session::Session;
+pub use worker::Worker;

@@ -1,14 +1,15 @@
 -- Lemmas on what a key has in a history that grows.
-use Rattle.std.proofs.Common.{◌≡◌, ℕ, ◌+◌, ◌<◌, ◌≤◌, Bool, true, false, cond, List, [], ◌∷◌, ◌++◌, Option, None, Some, IfSome, refl, sym, ap, subst, ◌∙◌, arith, rules, nat_le, ◌&&◌, append_assoc, ⊎_elim, leb}
+use Rattle.std.proofs.Common.{◌≡◌, ℕ, ◌+◌, ◌<◌, ◌≤◌, Bool, true, false, cond, List, [], ◌∷◌, ◌++◌, Option, None, Some, IfSome, IsSome, inl, inr, refl, sym, ap, subst, ◌∙◌, arith, rules, nat_le, ◌&&◌, append_assoc, ⊎_elim, leb}
 use Rattle.std.specs.List.{AllByRecursion}
 use Rattle.std.specs.Option.{option_and_then}
 use Rattle.std.specs.Str.{bytes_eq}
-use Rattle.std.proofs.lemmas.Bool.{cases_Bool}
+use Rattle.std.proofs.lemmas.Bool.{cases_Bool, false≢true}
 use Rattle.std.proofs.lemmas.Bool.Decides.{nat_tests}
 use Rattle.std.proofs.lemmas.List.{append-nil}
 use Rattle.std.proofs.lemmas.Slice.Eq.{bytes_eq-Decides}
 use Rattle.kv_model.specs.History.{Write, later, later_of, latest, value_at}
 use Rattle.kv_model.specs.Oracle.{preferred}
+use Rattle.kv_serve.specs.Causes.{Writes}
 use Rattle.kv_model.proofs.HistoryLemmas.{latest-push}
 
 -- the later of two writes is below what both are below
@@ -62,3 +63,25 @@ latest-later history (write ∷ more) stamp key h =
 -- writes with greater stamps change nothing at a stamp
 pub value_at-later : (history more : List Write) (stamp : ℕ) (key : List ℕ) → AllByRecursion (λ write. stamp < write.stamp) more → value_at (history ++ more) stamp key ≡ value_at history stamp key
 value_at-later history more stamp key h = ap (option_and_then (λ w. w.value)) (latest-later history more stamp key h)
+
+-- a key that has a latest write was written
+writes_from_latest : (history : List Write) (stamp : ℕ) (key : List ℕ) → IsSome (latest history stamp key) → Writes history key
+writes_from_latest [] stamp key h = false≢true h
+writes_from_latest (write ∷ history) stamp key h =
+    ⊎_elim
+    (λ same. inl ((bytes_eq-Decides write.key key).0 same))
+    (λ other. inr (writes_from_latest history stamp key (let rest : IsSome (cond (false && nat_le write.stamp stamp) (Some (later_of write (latest history stamp key))) (latest history stamp key)) = subst (λ b. IsSome (cond (b && nat_le write.stamp stamp) (Some (later_of write (latest history stamp key))) (latest history stamp key))) other h in rest)))
+    (cases_Bool (bytes_eq write.key key))
+
+some_from_value : (found : Option Write) → IsSome (option_and_then (λ w. w.value) found) → IsSome found
+some_from_value None h = h
+some_from_value (Some write) h = refl
+
+-- a key that has a value was written
+pub writes_from_value : (history : List Write) (stamp : ℕ) (key : List ℕ) → IsSome (value_at history stamp key) → Writes history key
+writes_from_value history stamp key h = writes_from_latest history stamp key (some_from_value (latest history stamp key) h)
+
+-- what was written stays written
+pub Writes-append : (history more : List Write) (key : List ℕ) → Writes history key → Writes (history ++ more) key
+Writes-append [] more key h = absurd h
+Writes-append (write ∷ history) more key h = ⊎_elim inl (λ w. inr (Writes-append history more key w)) h

@@ -3,3 +3,4 @@ pub mod ItemLemmas
 pub mod HistoryLemmas
 pub mod StoreLemmas
 pub mod SessionLemmas
+pub mod RunLemmas

@@ -25,11 +25,11 @@ use Rattle.kv_model.specs.Agreement.{IsAnswer, IsMapAnswer, IsRead, refusal_of}
 use Rattle.kv_serve.specs.Pages.{place_of}
 use Rattle.kv_serve.specs.Placed.{IsPlaced, GivesPage, HasPlaces}
 use Rattle.kv_serve.specs.Content.{ReadsAs, IsFoundIn}
-use Rattle.kv_serve.specs.Causes.{RoseBy, is_unsure, faults_told, IsFullAtLimit, HasKeys, slot_limit}
+use Rattle.kv_serve.specs.Causes.{RoseBy, is_unsure, faults_told, IsFullAtLimit, HasKeys, slot_limit, Writes}
 use Rattle.kv_serve.specs.Store.{Keeps, Holds, Steps, TakesCalls}
 use Rattle.kv_serve.specs.declared.store.Store.{Store}
 use Rattle.kv_disk.proofs.ImageLemmas.{with_page-here, with_page-other}
-use Rattle.kv_serve.proofs.HistoryLemmas.{value_at-last, value_at-other}
+use Rattle.kv_serve.proofs.HistoryLemmas.{value_at-last, value_at-other, writes_from_value}
 
 -- a map's answer to a request of good sizes is its answer
 answer_from : (told : Bool) (history : List Write) (request : Request) (reply : Reply) → refusal_of (only_class 7) request ≡ None → IsMapAnswer told (only_class 7) history request reply → IsAnswer told (only_class 7) history request reply
@@ -88,13 +88,13 @@ module _ {D : Type 0} {d : Ghosts D} where
       kept = λ unclosed key stamp from. keeps_same d.tells (d.seen old.disk) (d.seen new.disk) (place_of new.pages key) key (value_at history stamp key) same (rw pages (h.kept (sym closed ∙ unclosed) key stamp (omega arith)));
     }
 
-  -- each key with a page has a value
-  each_has_value : (store : Store D d) (history : List Write) (keys : List (List ℕ)) → Holds store history → store.closed ≡ false → AllByRecursion (λ key. IsSome (place_of store.pages key)) keys → AllByRecursion (λ key. (stamp : ℕ) × IsSome (value_at history stamp key)) keys
+  -- each key with a page was written
+  each_has_value : (store : Store D d) (history : List Write) (keys : List (List ℕ)) → Holds store history → store.closed ≡ false → AllByRecursion (λ key. IsSome (place_of store.pages key)) keys → AllByRecursion (λ key. Writes history key) keys
   each_has_value store history [] h unclosed each = tt
   each_has_value store history (key ∷ keys) h unclosed each =
-      ((store.next, value_there d.tells (d.seen store.disk) (place_of store.pages key) key (value_at history store.next key) each.0 (h.kept unclosed key store.next (omega arith))), each_has_value store history keys h unclosed each.1)
+      (writes_from_value history store.next key (value_there d.tells (d.seen store.disk) (place_of store.pages key) key (value_at history store.next key) each.0 (h.kept unclosed key store.next (omega arith))), each_has_value store history keys h unclosed each.1)
 
-  -- as many keys have a value as have a page
+  -- as many keys were written as have a page
   pub keys_from_places : (store : Store D d) → store.closed ≡ false → HasPlaces store.pages slot_limit → (history : List Write) → Holds store history → HasKeys history slot_limit
   keys_from_places store unclosed places history h = record {
       keys = places.keys;

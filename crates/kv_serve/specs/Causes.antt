@@ -1,10 +1,10 @@
 -- What shows the cause of each refusal.
-use Rattle.std.specs.Prelude.{◌≡◌, ◌≢◌, ℕ, ◌+◌, ◌-◌, ◌^◌, ◌≤◌, ◌↔◌, ◌||◌, min, List, [], ◌∷◌, length, Option, None, Bool, true, false, IsSome, ⊤}
+use Rattle.std.specs.Prelude.{◌≡◌, ◌≢◌, ℕ, ◌+◌, ◌-◌, ◌^◌, ◌≤◌, ◌↔◌, ◌||◌, ◌⊎◌, min, List, [], ◌∷◌, length, Option, None, Bool, true, false, ⊤}
 use Rattle.std.specs.List.{AllByRecursion, sum_by}
 use Rattle.kv_base.specs.declared.reply.Reply.{Reply}
 use Rattle.kv_base.specs.declared.reply.Reply.TheVariants.{Stored, Found, Missing, BadKey, TooLarge, Full, NoMemory, DiskFault, Unsure, Closed, Malformed}
 use Rattle.kv_model.specs.Pairwise.{Pairwise}
-use Rattle.kv_model.specs.History.{Write, value_at}
+use Rattle.kv_model.specs.History.{Write}
 use Rattle.kv_model.specs.Layout.{Layout}
 use Rattle.kv_model.specs.Pairs.{Pair}
 use Rattle.kv_model.specs.Agreement.{refusal_of}
@@ -56,18 +56,23 @@ ClosesBehindUnsure layout closed [] = ⊤
 ClosesBehindUnsure layout closed (pair ∷ pairs) =
     ((pair.reply ≡ Closed) ↔ ((closed ≡ true) × (refusal_of layout pair.request ≡ None))) × ClosesBehindUnsure layout (closed || is_unsure pair.reply) pairs
 
--- at least so many keys have a value in the history
+-- a write of the key is in the history
+abbrev pub Writes : List Write → List ℕ → Type 0
+Writes [] key = ⊥
+Writes (write ∷ history) key = (write.key ≡ key) ⊎ Writes history key
+
+-- at least so many keys were written
 pub record HasKeys (history : List Write) (count : ℕ) : Type 0 where
   pub keys : List (List ℕ)
   pub apart : Pairwise (λ key other. key ≢ other) keys
   pub many : count ≤ length keys
-  pub each : AllByRecursion (λ key. (stamp : ℕ) × IsSome (value_at history stamp key)) keys
+  pub each : AllByRecursion (λ key. Writes history key) keys
 
 -- the slots of a class
 abbrev pub slot_limit : ℕ
 slot_limit = 1048576
 
--- the reply is Full only where as many keys as the class has slots have a value
+-- the reply is Full only where as many keys were written as the class has slots
 abbrev pub IsFullAtLimit : List Write → Reply → Type 0
 IsFullAtLimit history (Stored stamp) = ⊤
 IsFullAtLimit history (Found stamp value) = ⊤

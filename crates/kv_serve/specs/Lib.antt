@@ -6,3 +6,4 @@ pub mod Store
 pub mod Open
 pub mod Session
 pub mod Run
+pub mod Answers

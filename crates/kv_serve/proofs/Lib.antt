@@ -1,6 +1,7 @@
-pub mod PagesLemmas
-pub mod ItemLemmas
 pub mod HistoryLemmas
-pub mod StoreLemmas
-pub mod SessionLemmas
+pub mod ItemLemmas
+pub mod PagesLemmas
 pub mod RunLemmas
+pub mod SessionLemmas
+pub mod StoreLemmas
+pub mod AnswerLemmas

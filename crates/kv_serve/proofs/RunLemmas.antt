@@ -1,262 +1,294 @@
--- Lemmas on whole runs of the plain store.
-use Rattle.std.proofs.Common.{◌≡◌, ◌≢◌, ℕ, ◌+◌, ◌<◌, ◌≤◌, ◌^◌, ◌-◌, Bool, true, false, List, [], ◌∷◌, ◌++◌, map, Option, None, Some, IfSome, MatchOption, min, refl, sym, ap, subst, ◌∙◌, arith, append_assoc, ◌||◌, ⊎_elim}
-use Rattle.std.specs.List.{AllByRecursion, cons_option, filter_map}
-use Rattle.std.specs.Option.{option_to_list}
+-- Lemmas on what a session did.
+use Rattle.std.proofs.Common.{◌≡◌, ◌≢◌, ℕ, ◌+◌, ◌^◌, ◌<◌, ◌≤◌, Bool, true, false, List, [], ◌∷◌, ◌++◌, length, drop, Option, Result, Ok, Err, OnOk, IfErr, MatchResult, inl, inr, refl, sym, ap, subst, ◌∙◌, arith, append_assoc, length-append}
+use Rattle.std.specs.List.{AllByRecursion, flat_map}
 use Rattle.std.proofs.lemmas.List.{append-nil}
+use Rattle.std.proofs.lemmas.List.Concat.{flat_map-append}
 use Rattle.kv_base.specs.declared.request.Request.{Request}
-use Rattle.kv_base.specs.declared.request.Request.TheVariants.{Put, Get}
 use Rattle.kv_base.specs.declared.reply.Reply.{Reply}
-use Rattle.kv_base.specs.declared.reply.Reply.TheVariants.{Stored, Found, Missing, BadKey, TooLarge, Full, NoMemory, DiskFault, Unsure, Closed, Malformed}
-use Rattle.kv_disk.specs.declared.disk.Disk.{Ghosts}
-use Rattle.kv_model.specs.Pairwise.{Pairwise}
-use Rattle.kv_model.specs.History.{Write, value_at}
-use Rattle.kv_model.specs.Layout.{only_class}
-use Rattle.kv_model.specs.Pairs.{Pair, acknowledged_by, key_of, stamp_of, stamps, writes}
-use Rattle.kv_model.specs.Agreement.{IsAnswer, IsMapAnswer, IsRead, refusal_of, AgreesWithMap}
-use Rattle.kv_model.specs.Order.{RespectsOrder, IsAfter, Rises}
-use Rattle.kv_serve.specs.Causes.{RoseBy, faults_told, faults_of, ClosesBehindUnsure, IsFullAtLimit, HasKeys, Writes}
-use Rattle.kv_serve.specs.Store.{Holds, Steps}
-use Rattle.kv_serve.specs.Run.{Runs}
-use Rattle.kv_serve.specs.Answers.{HasAnswers}
-use Rattle.kv_serve.specs.declared.store.Store.{Store}
-use Rattle.kv_serve.proofs.HistoryLemmas.{value_at-later, Writes-append}
+use Rattle.kv_base.specs.declared.reply.Reply.TheVariants as reply
+use Rattle.kv_base.specs.declared.cause.Cause.{Cause}
+use Rattle.kv_base.specs.declared.cause.Cause.TheVariants.{End, Malformed, Limit, SourceFault, SinkFault}
+use Rattle.kv_base.specs.Fault.{Rose}
+use Rattle.kv_base.specs.Stream.{Stream, Passes, IsSpent, Takes}
+use Rattle.kv_model.specs.Pairs.{Pair}
+use Rattle.kv_model.specs.Frames.{HasRequestFrame, request_frame, HasReplyFrame, reply_frame, BeginsWithRequest, BeginsWithRequests, BeginsWithNoRequest, IsBad}
+use Rattle.kv_model.specs.Transcript.{GoesOut, ClosesMalformed, Closes, Leaves}
+use Rattle.kv_frames.specs.Parse.{IsWhole}
+use Rattle.kv_serve.specs.declared.fill.Ready.{Ready}
+use Rattle.kv_serve.specs.declared.fill.Ready.TheVariants as ready
+use Rattle.kv_serve.specs.Session.{SessionState, IsReady, IsNew, Arrives, IsAtEnd, IsStuck, GoesOn, KeepsTaken, TakesPart}
+use Rattle.kv_serve.specs.Run.{Streams, pairs_of, Runs, Answers, AnswersAll, EndsBy, Ends}
+use Rattle.kv_serve.proofs.SessionLemmas.{Passes-nil, Passes-trans, Takes-nil, Takes-trans}
 
--- the numbers rise, from low on and below high
-abbrev RisesWithin : ℕ → ℕ → List ℕ → Type 0
-RisesWithin low high [] = low ≤ high
-RisesWithin low high (number ∷ numbers) = (low ≤ number) × RisesWithin (number + 1) high numbers
+all-append : {X : Type 0} (P : X → Type 0) (xs ys : List X) → AllByRecursion P xs → AllByRecursion P ys → AllByRecursion P (xs ++ ys)
+all-append P [] ys p q = q
+all-append P (x ∷ xs) ys p q = (p.0, all-append P xs ys p.1 q)
 
-rises_lower : (low mid high : ℕ) (numbers : List ℕ) → low ≤ mid → RisesWithin mid high numbers → RisesWithin low high numbers
-rises_lower low mid high [] le h = omega arith
-rises_lower low mid high (number ∷ numbers) le h = (omega (arith, h.0), h.1)
+-- what went out whole, and then what went out of more
+pub GoesOut-append : (replies more : List Reply) (given next : List ℕ) (left : List Reply) → GoesOut replies given [] → GoesOut more next left → GoesOut (replies ++ more) (given ++ next) left
+GoesOut-append replies more given next left p q =
+    let is : replies ≡ p.0 = p.2 ∙ append-nil p.0 in
+    let gave : given ≡ flat_map reply_frame p.0 = p.3 ∙ ap (λ (part : List ℕ). flat_map reply_frame p.0 ++ part) p.4 ∙ append-nil (flat_map reply_frame p.0) in (
+      p.0 ++ q.0,
+      q.1,
+      ap (λ (xs : List Reply). xs ++ more) is ∙ ap (λ (xs : List Reply). p.0 ++ xs) q.2 ∙ sym (append_assoc p.0 q.0 left),
+      ap (λ (xs : List ℕ). xs ++ next) gave ∙ ap (λ (xs : List ℕ). flat_map reply_frame p.0 ++ xs) q.3 ∙ sym (append_assoc (flat_map reply_frame p.0) (flat_map reply_frame q.0) q.1) ∙ ap (λ (xs : List ℕ). xs ++ q.1) (sym (flat_map-append reply_frame p.0 q.0)),
+      q.4,
+    )
 
-rises_more : (first : Option ℕ) (low mid high : ℕ) (numbers : List ℕ) → low ≤ mid → IfSome first (λ number. (low ≤ number) × (number < mid)) → RisesWithin mid high numbers → RisesWithin low high (cons_option first numbers)
-rises_more None low mid high numbers le h rises = rises_lower low mid high numbers le rises
-rises_more (Some number) low mid high numbers le h rises = (h.0, rises_lower (number + 1) mid high numbers (omega (arith, h.1)) rises)
+pub GoesOut-nil : GoesOut [] [] []
+GoesOut-nil = ([], [], refl, refl, refl)
 
--- what rises is above the start and below the end
-rises_above : (low high bound : ℕ) (numbers : List ℕ) → bound < low → RisesWithin low high numbers → AllByRecursion (λ number. bound < number) numbers
-rises_above low high bound [] lt h = tt
-rises_above low high bound (number ∷ numbers) lt h = (omega (arith, h.0), rises_above (number + 1) high bound numbers (omega (arith, h.0)) h.1)
+pub GoesOut-one : (one : Reply) → GoesOut (one ∷ []) (reply_frame one) []
+GoesOut-one one = (one ∷ [], [], refl, sym (append-nil (reply_frame one ++ []) ∙ append-nil (reply_frame one)), refl)
 
-rises_end : (low high : ℕ) (numbers : List ℕ) → RisesWithin low high numbers → low ≤ high
-rises_end low high [] h = h
-rises_end low high (number ∷ numbers) h = omega (arith, h.0, rises_end (number + 1) high numbers h.1)
+pub GoesOut-part : (one : Reply) (part behind : List ℕ) → 1 ≤ length behind → reply_frame one ≡ part ++ behind → GoesOut (one ∷ []) part (one ∷ [])
+GoesOut-part one part behind some parts = ([], part, refl, refl, (behind, some, parts))
 
-rises_within : (low high floor limit : ℕ) (numbers : List ℕ) → floor < low → high ≤ limit → RisesWithin low high numbers → AllByRecursion (λ number. (floor < number) × (number < limit)) numbers
-rises_within low high floor limit [] lt le h = tt
-rises_within low high floor limit (number ∷ numbers) lt le h =
-    ((omega (arith, h.0), omega (arith, rises_end (number + 1) high numbers h.1)), rises_within (number + 1) high floor limit numbers (omega (arith, h.0)) le h.1)
+pub BeginsWithRequests-arrives : (bytes piece : List ℕ) (requests : List Request) (rest : List ℕ) → BeginsWithRequests bytes requests rest → BeginsWithRequests (bytes ++ piece) requests (rest ++ piece)
+BeginsWithRequests-arrives bytes piece requests rest p = record {
+  parts = ap (λ (xs : List ℕ). xs ++ piece) p.parts ∙ append_assoc (flat_map request_frame requests) rest piece;
+  each = p.each;
+}
 
-above_differs : (number : ℕ) (numbers : List ℕ) → AllByRecursion (λ other. number < other) numbers → AllByRecursion (λ other. number ≢ other) numbers
-above_differs number [] h = tt
-above_differs number (other ∷ numbers) h = (λ e. let lt : number < other = h.0 in absurd (omega (arith, e)), above_differs number numbers h.1)
+pub BeginsWithRequests-next : (bytes : List ℕ) (requests : List Request) (rest : List ℕ) (next : Request) (behind : List ℕ) → BeginsWithRequests bytes requests rest → BeginsWithRequest rest next behind → BeginsWithRequests bytes (requests ++ next ∷ []) behind
+BeginsWithRequests-next bytes requests rest next behind p q =
+    let one : flat_map request_frame (next ∷ []) ≡ request_frame next = append-nil (request_frame next) in
+    let all : flat_map request_frame (requests ++ next ∷ []) ≡ flat_map request_frame requests ++ request_frame next = flat_map-append request_frame requests (next ∷ []) ∙ ap (λ (xs : List ℕ). flat_map request_frame requests ++ xs) one in
+    record {
+      parts = p.parts ∙ ap (λ (xs : List ℕ). flat_map request_frame requests ++ xs) q.parts ∙ sym (append_assoc (flat_map request_frame requests) (request_frame next) behind) ∙ ap (λ (xs : List ℕ). xs ++ behind) (sym all);
+      each = all-append HasRequestFrame requests (next ∷ []) p.each (q.has, tt);
+    }
 
-rises_distinct : (low high : ℕ) (numbers : List ℕ) → RisesWithin low high numbers → Pairwise (λ number other. number ≢ other) numbers
-rises_distinct low high [] h = tt
-rises_distinct low high (number ∷ numbers) h = (above_differs number numbers (rises_above (number + 1) high number numbers (omega arith) h.1), rises_distinct (number + 1) high numbers h.1)
+pairs_of-push : (requests : List Request) (replies : List Reply) (request : Request) (reply : Reply) → length replies ≡ length requests → pairs_of (requests ++ request ∷ []) (replies ++ reply ∷ []) ≡ pairs_of requests replies ++ record { request = request; reply = reply } ∷ []
+pairs_of-push [] [] request reply e = refl
+pairs_of-push [] (r ∷ rs) request reply e = absurd (omega arith)
+pairs_of-push (q ∷ qs) [] request reply e = absurd (omega arith)
+pairs_of-push (q ∷ qs) (r ∷ rs) request reply e =
+    let one : Pair = record { request = q; reply = r } in
+    ap (λ (pairs : List Pair). one ∷ pairs) (pairs_of-push qs rs request reply (omega arith))
 
-nothing_before : (numbers : List ℕ) → AllByRecursion (λ stamp. AllByRecursion {X = Write} (λ write. write.stamp < stamp) []) numbers
-nothing_before [] = tt
-nothing_before (number ∷ numbers) = (tt, nothing_before numbers)
+Runs-push : {S : Type 0} (steps : S → Request → Reply → S → Type 0) (old mid new : S) (pairs : List Pair) (pair : Pair) → Runs steps old pairs mid → steps mid pair.request pair.reply new → Runs steps old (pairs ++ pair ∷ []) new
+Runs-push {S = S} steps old mid new [] pair p step = (new, subst (λ (s : S). steps s pair.request pair.reply new) p step, refl)
+Runs-push steps old mid new (first ∷ pairs) pair p step = (p.0, p.1, Runs-push steps p.0 mid new pairs pair p.2 step)
 
--- groups of one request each
-abbrev singles : List Pair → List (List Pair)
-singles pairs = map (λ pair. pair ∷ []) pairs
+-- nothing was answered so far
+pub AnswersAll-new : {W So Si : Type 0} (streams : Streams So Si) (steps : W → Request → Reply → W → Type 0) (w : W) (s : SessionState So Si) → IsNew s → AnswersAll streams steps w w s s []
+AnswersAll-new streams steps w s new = record {
+  bytes = [];
+  given = [];
+  handled = [];
+  replies = [];
+  passed = Passes-nil (streams.stream s.source);
+  took = Takes-nil (streams.held s.sink);
+  counted = new.none_taken;
+  fronts = record { parts = sym new.none_waits; each = tt };
+  each = refl;
+  framed = tt;
+  out = GoesOut-nil;
+  runs = refl;
+}
 
-all_split : (P : ℕ → Type 0) (first : Option ℕ) (numbers : List ℕ) → AllByRecursion P (cons_option first numbers) → AllByRecursion P (cons_option first []) × AllByRecursion P numbers
-all_split P None numbers h = (tt, h)
-all_split P (Some number) numbers h = ((h.0, tt), h.1)
+-- bytes arrived behind what was answered
+pub AnswersAll-arrives : {W So Si : Type 0} (streams : Streams So Si) (steps : W → Request → Reply → W → Type 0) (before now : W) (old mid new : SessionState So Si) → AnswersAll streams steps before now old mid [] → Arrives (streams.stream mid.source) (streams.stream new.source) mid.waiting new.waiting mid.taken new.taken → new.sink ≡ mid.sink → AnswersAll streams steps before now old new []
+AnswersAll-arrives {Si = Si} streams steps before now old mid new p q stays = record {
+  bytes = p.bytes ++ q.bytes;
+  given = p.given;
+  handled = p.handled;
+  replies = p.replies;
+  passed = Passes-trans (streams.stream old.source) (streams.stream mid.source) (streams.stream new.source) p.bytes q.bytes p.passed q.passed;
+  took = subst (λ (sink : Si). Takes (streams.held old.sink) (streams.held sink) p.given) (sym stays) p.took;
+  counted = omega (arith, p.counted, q.counted, length-append p.bytes q.bytes);
+  fronts = subst (λ (waiting : List ℕ). BeginsWithRequests (p.bytes ++ q.bytes) p.handled waiting) (sym q.behind) (BeginsWithRequests-arrives p.bytes q.bytes p.handled mid.waiting p.fronts);
+  each = p.each;
+  framed = p.framed;
+  out = p.out;
+  runs = p.runs;
+}
 
-rises_split : (first : Option ℕ) (low high : ℕ) (numbers : List ℕ) → RisesWithin low high (cons_option first numbers) → IfSome first (λ number. AllByRecursion (λ other. number < other) numbers) × ((from : ℕ) × RisesWithin from high numbers)
-rises_split None low high numbers h = (tt, (low, h))
-rises_split (Some number) low high numbers h = (rises_above (number + 1) high number numbers (omega arith) h.1, (number + 1, h.1))
+-- one more request was answered
+pub AnswersAll-answers : {W So Si : Type 0} (streams : Streams So Si) (steps : W → Request → Reply → W → Type 0) (before now after : W) (old mid new : SessionState So Si) (left : List Reply) → AnswersAll streams steps before now old mid [] → Answers streams steps now after mid new left → AnswersAll streams steps before after old new left
+AnswersAll-answers {W = W} {So = So} streams steps before now after old mid new left p q = record {
+  bytes = p.bytes;
+  given = p.given ++ q.given;
+  handled = p.handled ++ q.request ∷ [];
+  replies = p.replies ++ q.reply ∷ [];
+  passed = subst (λ (source : So). Passes (streams.stream old.source) (streams.stream source) p.bytes) (sym q.source) p.passed;
+  took = Takes-trans (streams.held old.sink) (streams.held mid.sink) (streams.held new.sink) p.given q.given p.took q.took;
+  counted = q.taken ∙ p.counted;
+  fronts = BeginsWithRequests-next p.bytes p.handled mid.waiting q.request new.waiting p.fronts q.begins;
+  each = omega (arith, p.each, length-append p.replies (q.reply ∷ []), length-append p.handled (q.request ∷ []));
+  framed = all-append HasReplyFrame p.replies (q.reply ∷ []) p.framed (q.framed, tt);
+  out = GoesOut-append p.replies (q.reply ∷ []) p.given q.given left p.out q.out;
+  runs =
+      let one : Pair = record { request = q.request; reply = q.reply } in
+      subst (λ (pairs : List Pair). Runs steps before pairs after) (sym (pairs_of-push p.handled p.replies q.request q.reply p.each)) (Runs-push steps before now after (pairs_of p.handled p.replies) one p.runs q.step);
+}
 
-nothing_after : (pairs : List Pair) → AllByRecursion (λ group. AllByRecursion (λ stamp. AllByRecursion (λ other. stamp < other) (stamps group)) []) (singles pairs)
-nothing_after [] = tt
-nothing_after (pair ∷ pairs) = (tt, nothing_after pairs)
+-- a request at the front was used up and answered, whose reply went out so far
+pub Answers-made : {W So Si : Type 0} (streams : Streams So Si) (steps : W → Request → Reply → W → Type 0) (before now : W) (old mid new : SessionState So Si) (request : Request) (n : ℕ) (one : Reply) (given : List ℕ) (left : List Reply) → IsWhole old.waiting request n → steps before request one now → HasReplyFrame one → mid.waiting ≡ drop n old.waiting → mid.source ≡ old.source → mid.sink ≡ old.sink → mid.taken ≡ old.taken → mid.ended ≡ old.ended → KeepsTaken mid new → Takes (streams.held mid.sink) (streams.held new.sink) given → GoesOut (one ∷ []) given left → Answers streams steps before now old new left
+Answers-made {Si = Si} streams steps before now old mid new request n one given left whole step framed waiting source sink taken ended kept took out = record {
+  request = request;
+  reply = one;
+  given = given;
+  begins = subst (λ (rest : List ℕ). BeginsWithRequest old.waiting request rest) (sym (kept.waiting ∙ waiting)) whole.begins;
+  framed = framed;
+  step = step;
+  took = subst (λ (s : Si). Takes (streams.held s) (streams.held new.sink) given) sink took;
+  out = out;
+  source = kept.source ∙ source;
+  taken = kept.taken ∙ taken;
+  ended = kept.ended ∙ ended;
+}
 
--- groups of one request whose stamps are above the number
-number_after : (number : ℕ) (pairs : List Pair) → AllByRecursion (λ other. number < other) (stamps pairs) → AllByRecursion (λ group. AllByRecursion (λ stamp. AllByRecursion (λ other. stamp < other) (stamps group)) (number ∷ [])) (singles pairs)
-number_after number [] h = tt
-number_after number (pair ∷ pairs) h = let parts = all_split (λ other. number < other) (stamp_of pair.reply) (stamps pairs) h in ((parts.0, tt), number_after number pairs parts.1)
+-- the same, by what the delivery of the reply answered
+pub Answers-result : {T W So Si : Type 0} (streams : Streams So Si) (steps : W → Request → Reply → W → Type 0) (before now : W) (old mid new : SessionState So Si) (request : Request) (n : ℕ) (one : Reply) (result : Result T Reply) → IsWhole old.waiting request n → steps before request one now → HasReplyFrame one → mid.waiting ≡ drop n old.waiting → mid.source ≡ old.source → mid.sink ≡ old.sink → mid.taken ≡ old.taken → mid.ended ≡ old.ended → KeepsTaken mid new → OnOk result (Takes (streams.held mid.sink) (streams.held new.sink) (reply_frame one)) → IfErr result (λ back. (back ≡ one) × TakesPart (streams.held mid.sink) (streams.held new.sink) (reply_frame one)) → MatchResult result (λ _. Answers streams steps before now old new []) (λ back. Answers streams steps before now old new (back ∷ []))
+Answers-result streams steps before now old mid new request n one (Ok x) whole step framed waiting source sink taken ended kept ok err =
+    Answers-made streams steps before now old mid new request n one (reply_frame one) [] whole step framed waiting source sink taken ended kept ok (GoesOut-one one)
+Answers-result streams steps before now old mid new request n one (Err back) whole step framed waiting source sink taken ended kept ok err =
+    let part = err.1 in
+    subst (λ (r : Reply). Answers streams steps before now old new (r ∷ [])) (sym err.0)
+    (Answers-made streams steps before now old mid new request n one part.part (one ∷ []) whole step framed waiting source sink taken ended kept part.took (GoesOut-part one part.part part.behind part.some part.parts))
 
-first_after : (first : Option ℕ) (pairs : List Pair) → IfSome first (λ number. AllByRecursion (λ other. number < other) (stamps pairs)) → AllByRecursion (λ group. AllByRecursion (λ stamp. AllByRecursion (λ other. stamp < other) (stamps group)) (cons_option first [])) (singles pairs)
-first_after None pairs h = nothing_after pairs
-first_after (Some number) pairs h = number_after number pairs h
+-- a count that rose since a moment rose since each earlier one
+pub IsReady-earlier : (r : Ready) (waiting : List ℕ) (ended : Bool) (taken first before now : ℕ) → first ≤ before → IsReady r waiting ended taken before now → IsReady r waiting ended taken first now
+IsReady-earlier ready.Request waiting ended taken first before now le p = p
+IsReady-earlier ready.End waiting ended taken first before now le p = p
+IsReady-earlier ready.Malformed waiting ended taken first before now le p = p
+IsReady-earlier ready.Limit waiting ended taken first before now le p = p
+IsReady-earlier ready.SourceFault waiting ended taken first before now le p = (p.0, omega (arith, p.1))
 
-across_singles : (pairs : List Pair) (low high : ℕ) → RisesWithin low high (stamps pairs) → Pairwise IsAfter (singles pairs)
-across_singles [] low high h = tt
-across_singles (pair ∷ pairs) low high h =
-    let parts = rises_split (stamp_of pair.reply) low high (stamps pairs) h in
-    (first_after (stamp_of pair.reply) pairs parts.0, across_singles pairs parts.1.0 high parts.1.1)
+-- a request's frame has a byte
+pub request_shorter : (bytes : List ℕ) (request : Request) (rest : List ℕ) → BeginsWithRequest bytes request rest → length rest < length bytes
+request_shorter bytes request rest p =
+    omega (arith, ap (λ (xs : List ℕ). length xs) p.parts, length-append (request_frame request) rest)
 
-within_singles : (pairs : List Pair) → AllByRecursion (λ group. Pairwise (λ pair next. key_of pair.request ≡ key_of next.request → Rises pair next) group) (singles pairs)
-within_singles [] = tt
-within_singles (pair ∷ pairs) = ((tt, tt), within_singles pairs)
+-- what is left to be taken and what waits fall with each request, and so does the worker's room no faster
+pub Answers-room : {W So Si : Type 0} (streams : Streams So Si) (steps : W → Request → Reply → W → Type 0) (before now : W) (old mid new : SessionState So Si) (left : List Reply) → Arrives (streams.stream old.source) (streams.stream mid.source) old.waiting mid.waiting old.taken mid.taken → Answers streams steps before now mid new left → length new.waiting + old.taken < length old.waiting + new.taken
+Answers-room streams steps before now old mid new left p q =
+    let shorter = request_shorter mid.waiting q.request new.waiting q.begins in
+    omega (arith, shorter, p.counted, q.taken, ap (λ (xs : List ℕ). length xs) p.behind, length-append old.waiting p.bytes)
 
-match_more : (refusal : Option Reply) (P Q : Type 0) (R : Reply → Type 0) → (P → Q) → MatchOption refusal P R → MatchOption refusal Q R
-match_more None P Q R f h = f h
-match_more (Some reply) P Q R f h = h
+-- a session ends with no reply of its own
+pub EndsBy-silent : {So Si : Type 0} (streams : Streams So Si) (s : SessionState So Si) (cause : Cause) → ((bytes : List ℕ) → length bytes ≡ s.taken → Closes cause bytes s.waiting s.ended []) → Leaves cause [] → cause ≢ SinkFault → EndsBy streams s s cause []
+EndsBy-silent streams s cause closes leaves other = record {
+  closing = [];
+  given = [];
+  framed = tt;
+  closes = closes;
+  took = Takes-nil (streams.held s.sink);
+  out = GoesOut-nil;
+  leaves = leaves;
+  kept = record { source = refl; waiting = refl; taken = refl; ended = refl };
+  sink_later = omega arith;
+  sink_rose = λ e. absurd (other e);
+}
 
--- the answer to a put doesn't look at the history
-put_answer : (told : Bool) (history more : List Write) (key value : List ℕ) (reply : Reply) → IsMapAnswer told (only_class 7) history (Put key value) reply → IsMapAnswer told (only_class 7) more (Put key value) reply
-put_answer told history more key value (Stored stamp) h = h
-put_answer told history more key value (Found stamp found) h = h
-put_answer told history more key value (Missing stamp) h = h
-put_answer told history more key value BadKey h = h
-put_answer told history more key value TooLarge h = h
-put_answer told history more key value (Full class) h = h
-put_answer told history more key value NoMemory h = h
-put_answer told history more key value DiskFault h = h
-put_answer told history more key value (Unsure stamp) h = h
-put_answer told history more key value Closed h = h
-put_answer told history more key value (Malformed offset) h = h
+pub EndsBy-end : {So Si : Type 0} (streams : Streams So Si) (s : SessionState So Si) → IsAtEnd s.waiting s.ended → EndsBy streams s s End []
+EndsBy-end streams s p = EndsBy-silent streams s End (λ bytes e. (p.has_ended, p.none_waits, refl)) refl (λ e. cc)
 
--- the answer to a get stays where later writes have greater stamps
-get_answer : (told : Bool) (history more : List Write) (key : List ℕ) (reply : Reply) → IfSome (stamp_of reply) (λ stamp. AllByRecursion (λ write. stamp < write.stamp) more) → IsMapAnswer told (only_class 7) history (Get key) reply → IsMapAnswer told (only_class 7) (history ++ more) (Get key) reply
-get_answer told history more key (Stored stamp) later h = h
-get_answer told history more key (Found stamp found) later h = rw (value_at-later history more stamp key later) h
-get_answer told history more key (Missing stamp) later h = rw (value_at-later history more stamp key later) h
-get_answer told history more key BadKey later h = h
-get_answer told history more key TooLarge later h = h
-get_answer told history more key (Full class) later h = h
-get_answer told history more key NoMemory later h = h
-get_answer told history more key DiskFault later h = h
-get_answer told history more key (Unsure stamp) later h = h
-get_answer told history more key Closed later h = h
-get_answer told history more key (Malformed offset) later h = h
+pub EndsBy-limit : {So Si : Type 0} (streams : Streams So Si) (s : SessionState So Si) → GoesOn s.waiting s.ended → s.taken ≡ 2 ^ 40 → EndsBy streams s s Limit []
+EndsBy-limit streams s p full = EndsBy-silent streams s Limit (λ bytes e. (p.none, p.goes_on, e ∙ full, p.good, refl)) refl (λ e. cc)
 
--- a get writes nothing
-get_silent : (key : List ℕ) (reply : Reply) → acknowledged_by (Get key) reply ≡ None
-get_silent key (Stored stamp) = refl
-get_silent key (Found stamp value) = refl
-get_silent key (Missing stamp) = refl
-get_silent key BadKey = refl
-get_silent key TooLarge = refl
-get_silent key (Full class) = refl
-get_silent key NoMemory = refl
-get_silent key DiskFault = refl
-get_silent key (Unsure stamp) = refl
-get_silent key Closed = refl
-get_silent key (Malformed offset) = refl
+pub EndsBy-source_fault : {So Si : Type 0} (streams : Streams So Si) (s : SessionState So Si) → GoesOn s.waiting s.ended → EndsBy streams s s SourceFault []
+EndsBy-source_fault streams s p = EndsBy-silent streams s SourceFault (λ bytes e. (p.none, p.goes_on, p.good, refl)) refl (λ e. cc)
 
--- an answer stays where later writes have greater stamps
-answer_later : (told : Bool) (history more : List Write) (request : Request) (reply : Reply) → IfSome (stamp_of reply) (λ stamp. AllByRecursion (λ write. stamp < write.stamp) more) → IsAnswer told (only_class 7) history request reply → IsAnswer told (only_class 7) (history ++ cons_option (acknowledged_by request reply) more) request reply
-answer_later told history more (Put key value) reply later h =
-    match_more (refusal_of (only_class 7) (Put key value)) _ _ (λ refusal. reply ≡ refusal) (put_answer told history (history ++ cons_option (acknowledged_by (Put key value) reply) more) key value reply) h
-answer_later told history more (Get key) reply later h =
-    rw (get_silent key reply) (match_more (refusal_of (only_class 7) (Get key)) _ _ (λ refusal. reply ≡ refusal) (get_answer told history more key reply later) h)
+closes_malformed : (bytes waiting : List ℕ) (ended : Bool) (taken offset : ℕ) → IsStuck waiting ended → offset + length waiting ≡ taken → length bytes ≡ taken → ClosesMalformed bytes waiting ended offset (reply.Malformed offset ∷ [])
+closes_malformed bytes waiting ended taken offset stuck at e = record {
+  bad = stuck.bad;
+  at = at ∙ sym e;
+  told = refl;
+}
 
--- what is acknowledged has the reply's stamp
-acknowledged_from : (low : ℕ) (request : Request) (reply : Reply) → IfSome (stamp_of reply) (λ stamp. low ≤ stamp) → IfSome (acknowledged_by request reply) (λ write. low ≤ write.stamp)
-acknowledged_from low (Put key value) (Stored stamp) h = h
-acknowledged_from low (Get key) (Stored stamp) h = tt
-acknowledged_from low request (Found stamp value) h = tt
-acknowledged_from low request (Missing stamp) h = tt
-acknowledged_from low request BadKey h = tt
-acknowledged_from low request TooLarge h = tt
-acknowledged_from low request (Full class) h = tt
-acknowledged_from low request NoMemory h = tt
-acknowledged_from low request DiskFault h = tt
-acknowledged_from low request (Unsure stamp) h = tt
-acknowledged_from low request Closed h = tt
-acknowledged_from low request (Malformed offset) h = tt
+pub HasReplyFrame-malformed : (offset : ℕ) → offset < 2 ^ 64 → HasReplyFrame (reply.Malformed offset)
+HasReplyFrame-malformed offset fits = record { body = fits; size = omega arith }
 
-some_first : (P Q : ℕ → Type 0) (o : Option ℕ) → ((n : ℕ) → P n → Q n) → IfSome o P → IfSome o Q
-some_first P Q None f h = tt
-some_first P Q (Some n) f h = f n h
+-- the client was told that what stands at the front is no request
+pub EndsBy-told : {So Si : Type 0} (streams : Streams So Si) (old new : SessionState So Si) (offset : ℕ) → IsStuck old.waiting old.ended → offset + length old.waiting ≡ old.taken → HasReplyFrame (reply.Malformed offset) → Takes (streams.held old.sink) (streams.held new.sink) (reply_frame (reply.Malformed offset)) → KeepsTaken old new → streams.sink_faults old.sink ≤ streams.sink_faults new.sink → EndsBy streams old new (Malformed offset) []
+EndsBy-told streams old new offset stuck at has took kept later = record {
+  closing = reply.Malformed offset ∷ [];
+  given = reply_frame (reply.Malformed offset);
+  framed = (has, tt);
+  closes = λ bytes e. (stuck.none, closes_malformed bytes old.waiting old.ended old.taken offset stuck at e);
+  took = took;
+  out = GoesOut-one (reply.Malformed offset);
+  leaves = refl;
+  kept = kept;
+  sink_later = later;
+  sink_rose = λ e. absurd cc;
+}
 
-writes_lower : (low mid : ℕ) (rest : List Write) → low ≤ mid → AllByRecursion (λ write. mid ≤ write.stamp) rest → AllByRecursion (λ write. low ≤ write.stamp) rest
-writes_lower low mid [] le h = tt
-writes_lower low mid (write ∷ rest) le h = (omega (arith, h.0), writes_lower low mid rest le h.1)
+-- the client couldn't be told so
+pub EndsBy-untold : {So Si : Type 0} (streams : Streams So Si) (old new : SessionState So Si) (offset : ℕ) (one : Reply) → IsStuck old.waiting old.ended → offset + length old.waiting ≡ old.taken → HasReplyFrame (reply.Malformed offset) → one ≡ reply.Malformed offset → TakesPart (streams.held old.sink) (streams.held new.sink) (reply_frame (reply.Malformed offset)) → KeepsTaken old new → streams.sink_faults old.sink ≤ streams.sink_faults new.sink → Rose (streams.sink_faults old.sink) (streams.sink_faults new.sink) → EndsBy streams old new SinkFault (one ∷ [])
+EndsBy-untold streams old new offset one stuck at has is took kept later rose =
+    let ends : EndsBy streams old new SinkFault (reply.Malformed offset ∷ []) = record {
+      closing = reply.Malformed offset ∷ [];
+      given = took.part;
+      framed = (has, tt);
+      closes = λ bytes e. inr (stuck.none, (offset, closes_malformed bytes old.waiting old.ended old.taken offset stuck at e));
+      took = took.took;
+      out = GoesOut-part (reply.Malformed offset) took.part took.behind took.some took.parts;
+      leaves = omega arith;
+      kept = kept;
+      sink_later = later;
+      sink_rose = λ e. rose;
+    } in
+    subst (λ (r : Reply). EndsBy streams old new SinkFault (r ∷ [])) (sym is) ends
 
-writes_more : (low mid : ℕ) (first : Option Write) (rest : List Write) → low ≤ mid → IfSome first (λ write. low ≤ write.stamp) → AllByRecursion (λ write. mid ≤ write.stamp) rest → AllByRecursion (λ write. low ≤ write.stamp) (cons_option first rest)
-writes_more low mid None rest le h k = writes_lower low mid rest le k
-writes_more low mid (Some first) rest le h k = (h, writes_lower low mid rest le k)
+-- a session whose requests were all answered, and that ended then
+pub Ends-closed : {W So Si : Type 0} (streams : Streams So Si) (steps : W → Request → Reply → W → Type 0) (before now : W) (old mid new : SessionState So Si) (cause : Cause) (left : List Reply) → AnswersAll streams steps before now old mid [] → EndsBy streams mid new cause left → (mid.ended ≡ true → IsSpent (streams.stream mid.source)) → streams.source_faults old.source ≤ streams.source_faults mid.source → streams.sink_faults old.sink ≤ streams.sink_faults mid.sink → (cause ≡ SourceFault → Rose (streams.source_faults old.source) (streams.source_faults mid.source)) → Ends streams steps before now old new cause left
+Ends-closed {So = So} streams steps before now old mid new cause left p q spent source_later sink_later rose =
+    let same : streams.source_faults new.source ≡ streams.source_faults mid.source = ap (λ (source : So). streams.source_faults source) q.kept.source in
+    record {
+      bytes = p.bytes;
+      given = p.given ++ q.given;
+      handled = p.handled;
+      replies = p.replies;
+      passed = subst (λ (source : So). Passes (streams.stream old.source) (streams.stream source) p.bytes) (sym q.kept.source) p.passed;
+      took = Takes-trans (streams.held old.sink) (streams.held mid.sink) (streams.held new.sink) p.given q.given p.took q.took;
+      counted = q.kept.taken ∙ p.counted;
+      spent = λ e. subst (λ (source : So). IsSpent (streams.stream source)) (sym q.kept.source) (spent (sym q.kept.ended ∙ e));
+      transcript = record {
+        rest = mid.waiting;
+        closing = q.closing;
+        fronts = p.fronts;
+        each = p.each;
+        framed = all-append HasReplyFrame p.replies q.closing p.framed q.framed;
+        closes = subst (λ (ended : Bool). Closes cause p.bytes mid.waiting ended q.closing) (sym q.kept.ended) (q.closes p.bytes (sym p.counted));
+        out = GoesOut-append p.replies q.closing p.given q.given left p.out q.out;
+        leaves = q.leaves;
+      };
+      runs = p.runs;
+      source_later = omega (arith, same, source_later);
+      sink_later = omega (arith, q.sink_later, sink_later);
+      source_rose = λ e. subst (λ (n : ℕ). Rose (streams.source_faults old.source) n) (sym same) (rose e);
+      sink_rose = λ e. let h = q.sink_rose e in omega (arith, h, sink_later);
+    }
 
-rose_more : (first rest before mid now : ℕ) → RoseBy first before mid → RoseBy rest mid now → RoseBy (first + rest) before now
-rose_more first rest before mid now h k = omega arith
-
-writes_behind : (bound low : ℕ) (rest : List Write) → bound < low → AllByRecursion (λ write. low ≤ write.stamp) rest → AllByRecursion (λ write. bound < write.stamp) rest
-writes_behind bound low [] lt h = tt
-writes_behind bound low (write ∷ rest) lt h = (omega (arith, h.0), writes_behind bound low rest lt h.1)
-
--- one write more or none, and then the rest
-append_first : (history : List Write) (first : Option Write) (rest : List Write) → (history ++ option_to_list first) ++ rest ≡ history ++ cons_option first rest
-append_first history None rest = ap (λ h. h ++ rest) (append-nil history)
-append_first history (Some write) rest = append_assoc history (write ∷ []) rest
-
-each_later : (history more : List Write) (keys : List (List ℕ)) → AllByRecursion (λ key. Writes history key) keys → AllByRecursion (λ key. Writes (history ++ more) key) keys
-each_later history more [] h = tt
-each_later history more (key ∷ keys) h = (Writes-append history more key h.0, each_later history more keys h.1)
-
--- Full stays where more was written
-full_later : (history more : List Write) (reply : Reply) → IsFullAtLimit history reply → IsFullAtLimit (history ++ more) reply
-full_later history more (Stored stamp) h = h
-full_later history more (Found stamp value) h = h
-full_later history more (Missing stamp) h = h
-full_later history more BadKey h = h
-full_later history more TooLarge h = h
-full_later history more (Full class) h = record { keys = h.keys; apart = h.apart; many = h.many; each = each_later history more h.keys h.each }
-full_later history more NoMemory h = h
-full_later history more DiskFault h = h
-full_later history more (Unsure stamp) h = h
-full_later history more Closed h = h
-full_later history more (Malformed offset) h = h
-
-module _ {D : Type 0} {d : Ghosts D} where
-  -- the stamps of a run rise from the store's next one on
-  run_rises : (pairs : List Pair) (old new : Store D d) → Runs Steps old pairs new → RisesWithin old.next new.next (stamps pairs)
-  run_rises [] old new runs = rw runs (omega arith)
-  run_rises (pair ∷ pairs) old new runs =
-      rises_more (stamp_of pair.reply) old.next runs.0.next new.next (stamps pairs) runs.1.later runs.1.stamped (run_rises pairs runs.0 new runs.2)
-
-  -- its writes have no lesser stamps than the store's next one
-  run_writes : (pairs : List Pair) (old new : Store D d) → Runs Steps old pairs new → AllByRecursion (λ write. old.next ≤ write.stamp) (writes pairs)
-  run_writes [] old new runs = tt
-  run_writes (pair ∷ pairs) old new runs =
-      writes_more old.next runs.0.next (acknowledged_by pair.request pair.reply) (writes pairs) runs.1.later
-      (acknowledged_from old.next pair.request pair.reply (some_first _ _ (stamp_of pair.reply) (λ n h. h.0) runs.1.stamped))
-      (run_writes pairs runs.0 new runs.2)
-
-  -- each reply is an answer over the history and all writes of the run
-  run_answers : (pairs : List Pair) (old new : Store D d) (history : List Write) → Holds old history → Runs Steps old pairs new → AllByRecursion (λ pair. IsAnswer d.tells (only_class 7) (history ++ writes pairs) pair.request pair.reply) pairs
-  run_answers [] old new history h runs = tt
-  run_answers (pair ∷ pairs) old new history h runs =
-      let later = run_writes pairs runs.0 new runs.2 in
-      (answer_later d.tells history (writes pairs) pair.request pair.reply (some_first _ _ (stamp_of pair.reply) (λ n k. writes_behind n runs.0.next (writes pairs) k.1 later) runs.1.stamped) (runs.1.answers history h),
-       subst (λ all. AllByRecursion (λ other. IsAnswer d.tells (only_class 7) all other.request other.reply) pairs) (append_first history (acknowledged_by pair.request pair.reply) (writes pairs))
-       (run_answers pairs runs.0 new (history ++ option_to_list (acknowledged_by pair.request pair.reply)) (runs.1.holds history h) runs.2))
-
-  run_full : (pairs : List Pair) (old new : Store D d) (history : List Write) → Holds old history → Runs Steps old pairs new → AllByRecursion (λ pair. IsFullAtLimit (history ++ writes pairs) pair.reply) pairs
-  run_full [] old new history h runs = tt
-  run_full (pair ∷ pairs) old new history h runs =
-      (full_later history (writes (pair ∷ pairs)) pair.reply (runs.1.full history h),
-       subst (λ all. AllByRecursion (λ other. IsFullAtLimit all other.reply) pairs) (append_first history (acknowledged_by pair.request pair.reply) (writes pairs))
-       (run_full pairs runs.0 new (history ++ option_to_list (acknowledged_by pair.request pair.reply)) (runs.1.holds history h) runs.2))
-
-  run_closes : (pairs : List Pair) (old new : Store D d) → Runs Steps old pairs new → ClosesBehindUnsure (only_class 7) old.closed pairs
-  run_closes [] old new runs = tt
-  run_closes (pair ∷ pairs) old new runs = (runs.1.closes, subst (λ closed. ClosesBehindUnsure (only_class 7) closed pairs) runs.1.closing (run_closes pairs runs.0 new runs.2))
-
-  run_faults : (pairs : List Pair) (old new : Store D d) → Runs Steps old pairs new → RoseBy (faults_of pairs) (d.faults old.disk) (d.faults new.disk)
-  run_faults [] old new runs = rw runs (omega arith)
-  run_faults (pair ∷ pairs) old new runs = rose_more (faults_told pair.reply) (faults_of pairs) (d.faults old.disk) (d.faults runs.0.disk) (d.faults new.disk) runs.1.cause (run_faults pairs runs.0 new runs.2)
-
-  -- a run of a new store has its answers
-  pub run_has_answers : (before : D) (pairs : List Pair) (old new : Store D d) → Holds old [] → old.next ≡ 1 → old.closed ≡ false → new.next ≤ 2 ^ 62 → d.faults before ≤ d.faults old.disk → Runs Steps old pairs new → HasAnswers d before new.disk pairs
-  run_has_answers before pairs old new h next unclosed limit faults runs =
-      let rises = run_rises pairs old new runs in
-      record {
-        agrees = record {
-          distinct = rises_distinct old.next new.next (stamps pairs) rises;
-          above = rises_within old.next new.next 0 (2 ^ 62) (stamps pairs) (omega (arith, next)) limit rises;
-          fresh = nothing_before (stamps pairs);
-          replies = run_answers pairs old new [] h runs;
-        };
-        ordered = record { across = across_singles pairs old.next new.next rises; within = within_singles pairs };
-        closes = subst (λ closed. ClosesBehindUnsure (only_class 7) closed pairs) unclosed (run_closes pairs old new runs);
-        faults = omega (arith, faults, run_faults pairs old new runs);
-        full = run_full pairs old new [] h runs;
-      }
+-- a session whose sink failed within the reply to its last request
+pub Ends-unsent : {W So Si : Type 0} (streams : Streams So Si) (steps : W → Request → Reply → W → Type 0) (before now : W) (old new : SessionState So Si) (one : Reply) → AnswersAll streams steps before now old new (one ∷ []) → (new.ended ≡ true → IsSpent (streams.stream new.source)) → streams.source_faults old.source ≤ streams.source_faults new.source → streams.sink_faults old.sink ≤ streams.sink_faults new.sink → Rose (streams.sink_faults old.sink) (streams.sink_faults new.sink) → Ends streams steps before now old new SinkFault (one ∷ [])
+Ends-unsent streams steps before now old new one p spent source_later sink_later rose = record {
+  bytes = p.bytes;
+  given = p.given;
+  handled = p.handled;
+  replies = p.replies;
+  passed = p.passed;
+  took = p.took;
+  counted = p.counted;
+  spent = spent;
+  transcript = record {
+    rest = new.waiting;
+    closing = [];
+    fronts = p.fronts;
+    each = p.each;
+    framed = all-append HasReplyFrame p.replies [] p.framed tt;
+    closes = inl refl;
+    out = subst (λ (replies : List Reply). GoesOut replies p.given (one ∷ [])) (sym (append-nil p.replies)) p.out;
+    leaves = omega arith;
+  };
+  runs = p.runs;
+  source_later = source_later;
+  sink_later = sink_later;
+  source_rose = λ e. absurd cc;
+  sink_rose = λ e. rose;
+}

@@ -15,9 +15,10 @@ Passes-trans None None (Some c) x y p q = absurd q
 Passes-trans None (Some b) c x y p q = absurd p
 Passes-trans (Some a) None c x y p q = absurd p
 Passes-trans (Some a) (Some b) None x y p q = absurd q
-Passes-trans (Some a) (Some b) (Some c) x y p q =
-    (q.0 ∙ ap (λ (taken : List ℕ). taken ++ y) p.0 ∙ append_assoc a.taken x y,
-    p.1 ∙ ap (λ (left : List ℕ). x ++ left) q.1 ∙ sym (append_assoc x y c.left))
+Passes-trans (Some a) (Some b) (Some c) x y p q = (
+  q.0 ∙ ap (λ (taken : List ℕ). taken ++ y) p.0 ∙ append_assoc a.taken x y,
+  p.1 ∙ ap (λ (left : List ℕ). x ++ left) q.1 ∙ sym (append_assoc x y c.left),
+)
 
 pub Takes-nil : (now : Option (List ℕ)) → Takes now now []
 Takes-nil None = tt
@@ -54,14 +55,14 @@ Arrives-trans {a = a} {b = b} {c = c} {x = x} p q = record {
 pub StaysDecided-more : {So Si : Type 0} {old mid new : SessionState So Si} → StaysDecided old mid → NeedsMore mid.waiting mid.ended mid.taken → StaysDecided old new
 StaysDecided-more {So = So} {Si = Si} stays more = record {
   front = λ h.
-    let none = subst (λ (s : SessionState So Si). BeginsWithNoRequest s.waiting) (stays.front h) more.undecided.none in
-    absurd (none h.request h.rest h.begins);
+      let none = subst (λ (s : SessionState So Si). BeginsWithNoRequest s.waiting) (stays.front h) more.undecided.none in
+      absurd (none h.request h.rest h.begins);
   bad = λ h.
-    let good = subst (λ (s : SessionState So Si). IsMalformed s.waiting → ⊥) (stays.bad h) more.undecided.good in
-    absurd (good h);
+      let good = subst (λ (s : SessionState So Si). IsMalformed s.waiting → ⊥) (stays.bad h) more.undecided.good in
+      absurd (good h);
   ended = λ h.
-    let goes_on = subst (λ (s : SessionState So Si). s.ended ≡ false) (stays.ended h) more.undecided.goes_on in
-    absurd cc;
+      let goes_on = subst (λ (s : SessionState So Si). s.ended ≡ false) (stays.ended h) more.undecided.goes_on in
+      absurd cc;
 }
 
 -- the bytes up to m + n of two lists, where the first has m
@@ -92,5 +93,5 @@ pub Takes-more : (a b c : Option (List ℕ)) (sent n : ℕ) (bytes : List ℕ) �
 Takes-more a b c sent n bytes p next =
     let q : Takes b c (take n (drop sent bytes)) = subst (λ (xs : List ℕ). Takes b c (take n xs)) (take_rest bytes sent) next in
     let e : take sent bytes ++ take n (drop sent bytes) ≡ take (sent + n) bytes =
-        sym (sym (take-append-drop sent (take (sent + n) bytes)) ∙ rw (take-take sent (sent + n) bytes (omega arith), drop-take sent n bytes) refl) in
+    sym (sym (take-append-drop sent (take (sent + n) bytes)) ∙ rw (take-take sent (sent + n) bytes (omega arith), drop-take sent n bytes) refl) in
     subst (λ (xs : List ℕ). Takes a c xs) e (Takes-trans a b c (take sent bytes) (take n (drop sent bytes)) p q)

@@ -1,4 +1,4 @@
-ghost use Rattle.std.specs.Prelude.{◌≡◌, ◌≢◌, ℕ, ◌+◌, ◌^◌, ◌<◌, ◌≤◌, [], ◌∷◌, true, IfOk, MatchResult, option_to_list};
+ghost use Rattle.std.specs.Prelude.{◌≡◌, ◌≢◌, ℕ, ◌+◌, ◌^◌, ◌<◌, ◌≤◌, [], ◌∷◌, ◌++◌, true, IfOk, MatchResult, option_to_list};
 ghost use Rattle.kv_base.specs.Fault.{HasCause, Rose};
 ghost use Rattle.kv_base.specs.Stream.{IsSpent};
 ghost use Rattle.kv_serve.specs.Session.{IsNew, HasRequest, IsReady, IsStuck};
@@ -29,9 +29,7 @@ pub fn run<W: Worker, So: Source, Si: Sink>(
     ensures less { W.room worker.old ≤ W.room worker.new + 2 ^ 40 }
 {
     let (cause, unsent) = run_to_end(worker, &mut session);
-    if let Some(reply) = unsent {
-        undelivered.append(reply).unwrap();
-    }
+    keep(&mut undelivered, unsent);
     let taken = session.taken();
     let (source, sink) = session.into_parts();
     Finished {
@@ -42,6 +40,16 @@ pub fn run<W: Worker, So: Source, Si: Sink>(
             cause,
             undelivered,
         },
+    }
+}
+
+/// Keeps the reply that wasn't sent, where there is one.
+fn keep(undelivered: &mut Replies, unsent: Option<Reply>)
+    requires { 0 < undelivered.old.spare }
+    ensures { undelivered.new.items ≡ undelivered.old.items ++ option_to_list unsent }
+{
+    if let Some(reply) = unsent {
+        undelivered.append(reply).unwrap();
     }
 }
 
@@ -78,12 +86,13 @@ fn answer_all<W: Worker, So: Source, Si: Sink>(
     ensures less { W.room worker.old ≤ W.room worker.new + 2 ^ 40 }
 {
     loop {
-        match session.fill() {
+        let ready = session.fill();
+        match ready {
             Ready::Request => match answer_front(worker, session) {
                 Ok(()) => {}
                 Err(reply) => return Err(reply),
             },
-            ready => return Ok(ready),
+            _ => return Ok(ready),
         }
     }
 }

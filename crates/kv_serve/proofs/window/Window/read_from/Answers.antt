@@ -11,7 +11,7 @@ returns-in-Ok-clause-arrives g c =
     let buffer = c.deref_mut.result.now in
     let size : length buffer ≡ c.compact.new.buffer.len = c.deref_mut.ensures.len in
     let was : drop start (take end buffer) ≡ c.args.self.now =
-        ap (λ (items : List ℕ). drop start (take end items)) c.deref_mut.ensures.value ∙ c.compact.ensures.same ∙ c.self.view_is in
+    ap (λ (items : List ℕ). drop start (take end items)) c.deref_mut.ensures.value ∙ c.compact.ensures.same ∙ c.self.view_is in
     let front : length (take c.in-Ok.n c.read.new.buf) ≡ c.in-Ok.n = length-take-le c.in-Ok.n c.read.new.buf c.in-Ok.ensures.bound in
     record {
       bytes = take c.in-Ok.n c.read.new.buf;

@@ -27,10 +27,11 @@ impl<T> Model for ReservedList<T> {
 }
 
 impl<T> ReservedList<T> {
-    /// An empty list with room for `n` items.
+    /// An empty list with room for `n` items. The one error is want of memory; none is wanted for no item.
     pub fn with_room(alloc: Global, n: usize) -> Result<ReservedList<T>, NoMemory>
         ensures empty { IfOk result (λ list. list.items ≡ []) }
         ensures room { IfOk result (λ list. n ≤ list.spare) }
+        ensures none { n ≡ 0 → IsOk result }
     {
         let items = Vec::with_capacity(alloc, n)?;
         Ok(ReservedList { items, spare: n })

@@ -7,3 +7,4 @@ pub mod Open
 pub mod Session
 pub mod Run
 pub mod Answers
+pub mod Words

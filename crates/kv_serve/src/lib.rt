@@ -17,6 +17,7 @@ mod runs;
 mod send;
 mod session;
 mod window;
+mod words;
 mod worker;
 
 pub use ending::{Ending, Endings, Finished};

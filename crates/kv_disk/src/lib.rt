@@ -1,0 +1,8 @@
+//! The disk under one worker: what it reads as, what a crash may leave of it, and two that stand in memory.
+#![tactic(auto)]
+
+mod disk;
+mod plain;
+
+pub use disk::Disk;
+pub use plain::PlainDisk;

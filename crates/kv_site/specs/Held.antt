@@ -11,6 +11,10 @@ pub record Held (In Out Pages : Type 0) : Type 0 where
   pub home : ℕ → Option (List ℕ)
   pub report_lent : Bool
 
+-- nothing is held, and nothing was taken
+abbrev pub nothing_held : {In Out Pages : Type 0} → Held In Out Pages
+nothing_held = record { sessions = λ _. None; disks = λ _ _. None; report = None; lent = λ _. false; home = λ _. None; report_lent = false }
+
 -- every session is held as before, and was lent as before
 pub record SessionsStay {In Out Pages : Type 0} (old new : Held In Out Pages) : Type 0 where
   pub held : (n : ℕ) → new.sessions n ≡ old.sessions n

@@ -1,3 +1,4 @@
 pub mod Disk
 pub mod Plain
 pub mod PlainFields
+pub mod Replay

@@ -1,3 +1,4 @@
 pub mod CrashLemmas
 pub mod ImageLemmas
 mod PlainLemmas
+mod TapeLemmas

@@ -1,4 +1,6 @@
 pub mod Disk
+pub mod Memory
 pub mod Plain
 pub mod PlainFields
 pub mod Replay
+pub mod Told

@@ -1,4 +1,6 @@
 pub mod CrashLemmas
 pub mod ImageLemmas
 mod PlainLemmas
+mod SettledLemmas
+mod SpotLemmas
 mod TapeLemmas

@@ -1,5 +1,6 @@
 pub mod Disk
 pub mod Memory
+pub mod MemoryFields
 pub mod Plain
 pub mod PlainFields
 pub mod Replay

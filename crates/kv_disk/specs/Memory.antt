@@ -1,5 +1,5 @@
 -- A disk in memory that keeps its calls, and what a crash may leave of it.
-use Rattle.std.specs.Prelude.{◌≡◌, ℕ, ◌+◌, ◌^◌, ◌-◌, ◌≤◌, ◌<◌, ◌==◌, ◌&&◌, ◌⊎◌, ◌↔◌, nat_le, nat_lt, Bool, true, List, [], ◌∷◌, ◌++◌, length, min, take, fold, Result, IsErr, IsNone, OnErr, is_none, is_ok, is_err, Contains, IsTrue, if◌then◌else◌, slice_index, slice_index_or, refl}
+use Rattle.std.specs.Prelude.{◌≡◌, ℕ, ◌+◌, ◌^◌, ◌-◌, ◌≤◌, ◌<◌, ◌==◌, ◌&&◌, ◌⊎◌, ◌↔◌, nat_le, nat_lt, Bool, true, List, [], ◌∷◌, ◌++◌, length, map, min, take, Result, IsErr, IsNone, OnErr, is_none, is_ok, is_err, Contains, IsTrue, if◌then◌else◌, slice_index, slice_index_or, refl}
 use Rattle.kv_base.specs.Calls.{next_count}
 use Rattle.kv_base.specs.Image.{Image}
 use Rattle.kv_disk.specs.Disk.{Choices}
@@ -7,7 +7,7 @@ use Rattle.kv_disk.specs.declared.call.Held.{Held}
 use Rattle.kv_disk.specs.declared.call.Spot.{Spot}
 use Rattle.kv_disk.specs.declared.call.Call.{Call}
 use Rattle.kv_disk.specs.declared.call.Call.TheVariants.{Write, Sync, Idle}
-use Rattle.kv_disk.specs.Replay.{place_in, Left, after_call, left_in, spots_in, settled_in, length_in}
+use Rattle.kv_disk.specs.Replay.{place_in, spot, spot_of, held_with, put_at, Left, left_in, spots_in, settled_in, length_in}
 
 -- the pages before the first call, the calls in order as far as their room goes, the rooms for pages and for calls, the numbers of the calls that fail, and the counts
 pub record Tape : Type 0 where
@@ -80,11 +80,9 @@ pub record Writes {T E : Type 0} (file page : ℕ) (content : List ℕ) (old new
 abbrev pub IsCounted : Tape → Type 0
 IsCounted disk = length disk.log ≡ min disk.calls disk.call_room
 
--- pages with this content on one of them, which comes last where it is new
-abbrev pub put_page : List Held → ℕ → ℕ → List ℕ → List Held
-put_page [] file page content = record { file = file; page = page; content = content } ∷ []
-put_page (held ∷ pages) file page content =
-    if (held.file == file) && (held.page == page) then record { file = file; page = page; content = content } ∷ pages else held ∷ put_page pages file page content
+-- a disk in memory on which a page was put, synced at once
+abbrev pub with_held : Tape → ℕ → ℕ → List ℕ → Tape
+with_held disk file page content = record disk { pages = put_at disk.pages (held_with (spot file page) content) (place_in (map spot_of disk.pages) file page) }
 
 -- a disk in memory after a crash
 abbrev pub crashed : Tape → ℕ → List ℕ → Tape

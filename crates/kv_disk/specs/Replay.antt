@@ -1,5 +1,5 @@
 -- What the calls of a disk in memory leave, from its pages before the first call.
-use Rattle.std.specs.Prelude.{◌≡◌, ℕ, ◌+◌, ◌-◌, ◌%◌, ◌^◌, ◌<◌, ◌==◌, ◌&&◌, ◌||◌, nat_lt, Bool, List, [], ◌∷◌, ◌++◌, length, map, filter, fold, count_by, position, Option, Contains, is_some, slice_index, slice_index_or, ⊤, if◌then◌else◌}
+use Rattle.std.specs.Prelude.{◌≡◌, ℕ, ◌+◌, ◌-◌, ◌%◌, ◌^◌, ◌<◌, ◌==◌, ◌&&◌, ◌||◌, nat_lt, Bool, List, [], ◌∷◌, ◌++◌, length, map, filter, fold, count_by, position, Option, None, Some, Contains, slice_set, is_some, slice_index, slice_index_or, ⊤, if◌then◌else◌}
 use Rattle.kv_base.specs.Image.{zero_page}
 use Rattle.kv_disk.specs.declared.call.Held.{Held}
 use Rattle.kv_disk.specs.declared.call.Spot.{Spot}
@@ -94,3 +94,14 @@ abbrev pub CallFits : Call → Type 0
 CallFits (Write w) = w.page < 2 ^ 32 - 1
 CallFits Sync = ⊤
 CallFits Idle = ⊤
+
+-- pages with one of them in its place, or behind the others where it is new
+abbrev pub put_at : List Held → Held → Option ℕ → List Held
+put_at pages held None = pages ++ held ∷ []
+put_at pages held (Some place) = slice_set pages place held
+
+-- a call other than a write
+abbrev pub IsNoWrite : Call → Type 0
+IsNoWrite (Write w) = ⊥
+IsNoWrite Sync = ⊤
+IsNoWrite Idle = ⊤

@@ -3,8 +3,10 @@
 
 mod call;
 mod disk;
+mod memory;
 mod plain;
 mod replay;
 
 pub use disk::Disk;
+pub use memory::MemDisk;
 pub use plain::PlainDisk;

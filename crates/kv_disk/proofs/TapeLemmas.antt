@@ -160,7 +160,7 @@ IsNone_from_test None none = refl
 IsNone_from_test (Some n) none = absurd (false≢true none)
 
 -- a full disk, by the test
-is_full-true : (old : Tape) (file page : ℕ) → is_full old file page ≡ true → IsFull old file page
+pub is_full-true : (old : Tape) (file page : ℕ) → is_full old file page ≡ true → IsFull old file page
 is_full-true old file page full =
     let both = and_parts (is_none (place_in (spots_of old) file page)) (nat_le old.page_room (length (spots_of old))) full in
     (IsNone_from_test (place_in (spots_of old) file page) both.0, leb-true old.page_room (length (spots_of old)) both.1)

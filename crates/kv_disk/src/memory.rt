@@ -130,4 +130,38 @@ impl MemDisk {
         note(&mut self.log, self.call_room, call);
         Ok(())
     }
+
+    // Makes a write.
+    fn put(&mut self, file: u8, page: u32, content: &[u8; 4096]) -> Result<(), Failed>
+        requires { page < 2 ^ 32 - 1 }
+        ensures writes { Writes file page content.now self.old self.new result }
+        ensures tape { IsTape self.old }
+    {
+        self.calls = self.calls.saturating_add(1);
+        if self.log.len() >= self.call_room as usize {
+            self.faults = self.faults.saturating_add(1);
+            return Err(Failed);
+        }
+        let Some(place) = hold(&mut self.spots, &mut self.contents, self.page_room, file, page)
+        else {
+            note(&mut self.log, self.call_room, Call::Idle);
+            self.faults = self.faults.saturating_add(1);
+            return Err(Failed);
+        };
+        let mut write = Write {
+            file,
+            page,
+            content: *content,
+            done: false,
+        };
+        if self.failing.has(self.calls) {
+            note(&mut self.log, self.call_room, Call::Write(write));
+            self.faults = self.faults.saturating_add(1);
+            return Err(Failed);
+        }
+        write.done = true;
+        self.contents[place] = *content;
+        note(&mut self.log, self.call_room, Call::Write(write));
+        Ok(())
+    }
 }

@@ -1,3 +1,7 @@
 pub mod Disk
+pub mod Memory
+pub mod MemoryFields
 pub mod Plain
 pub mod PlainFields
+pub mod Replay
+pub mod Told

@@ -1,18 +1,17 @@
 -- What one more call of a disk in memory does to what it reads as and to what a crash may leave.
-use Rattle.std.proofs.Common.{◌≡◌, ℕ, ◌≤◌, ◌<◌, ◌+◌, ◌-◌, ◌^◌, min, List, [], ◌∷◌, ◌++◌, Bool, true, false, cond, length, take, Option, Some, None, Result, Ok, Err, OnOk, OnErr, IsErr, is_ok, ◌⊎◌, inl, inr, refl, ap, sym, ◌∙◌, subst, subst₂, arith, rules}
-use Rattle.std.specs.Prelude.{◌&&◌, ◌==◌, fold, Contains, is_none, IsNone, nat_le, if◌then◌else◌}
+use Rattle.std.proofs.Common.{◌≡◌, ℕ, ◌≤◌, ◌<◌, List, [], ◌∷◌, ◌++◌, Bool, true, false, length, map, take, Option, Some, None, Result, Ok, Err, OnOk, OnErr, is_ok, ◌⊎◌, inl, inr, refl, ap, sym, ◌∙◌, subst, arith}
+use Rattle.std.specs.Prelude.{Contains, is_none, IsNone, nat_le, if◌then◌else◌}
 use Rattle.std.proofs.lemmas.Bool.{false≢true, cond-true, cond-false, cases_lt, cases_Bool, le-leb, lt-leb, leb-true, and_parts}
 use Rattle.std.proofs.lemmas.List.{take-append-le, take_all, length_push}
 use Rattle.std.proofs.lemmas.List.Sums.{fold_push}
 use Rattle.std.proofs.lemmas.List.Elements.{Contains-push, Contains-push_cases, Contains-append_left}
-use Rattle.kv_base.specs.Fault.{HasCause, Rose}
-use Rattle.kv_base.specs.Image.{Image, with_page}
-use Rattle.kv_disk.specs.declared.call.Held.{Held}
+use Rattle.kv_base.specs.Fault.{HasCause}
+use Rattle.kv_base.specs.Image.{with_page}
 use Rattle.kv_disk.specs.declared.call.Call.{Call}
 use Rattle.kv_disk.specs.declared.call.Call.TheVariants.{Write, Sync, Idle}
-use Rattle.kv_disk.specs.Disk.{Choices, MayLeave, Only, NoMore, Same, Adds, WrittenOrNot, Advances}
-use Rattle.kv_disk.specs.Replay.{place_in, Left, after_call, durable, left_in, start_of, spots_in}
-use Rattle.kv_disk.specs.Memory.{Tape, left_at, image_of, choices_of, spots_of, IsPast, IsListed, IsFull, is_full, Keeps, Looks, Syncs, Writes, IsTape}
+use Rattle.kv_disk.specs.Disk.{Choices, Only, NoMore, Same, Adds, WrittenOrNot, Advances}
+use Rattle.kv_disk.specs.Replay.{place_in, Left, after_call, durable, start_of, spot_of, spots_after}
+use Rattle.kv_disk.specs.Memory.{Tape, left_at, image_of, choices_of, spots_of, IsPast, IsFull, is_full, Keeps, Syncs, Writes, IsTape}
 use Rattle.kv_disk.specs.Told.{seen_is_left}
 use Rattle.kv_disk.proofs.ImageLemmas.{one_place, same_image, test-at, test-other, with_page-at, with_page-other}
 
@@ -29,7 +28,7 @@ take-past : {T E : Type 0} (call : Call) (old new : Tape) (result : Result T E) 
 take-past call old new result t kept is le = elim (cases_lt (length old.log) old.call_room) [
   | inl room ↦ rw (log-kept call old new result kept room) (take-append-le t old.log (call ∷ []) (omega (arith, is.counted)))
   | inr past ↦ ap (take t) (log-past call old new result kept past)
-  ]
+]
 
 -- now there are the same calls past the room
 take-now_past : {T E : Type 0} (call : Call) (old new : Tape) (result : Result T E) → Keeps call old new result → IsTape old → IsPast old → take new.calls new.log ≡ take old.calls old.log
@@ -66,7 +65,7 @@ pub left-idle : {T E : Type 0} (old new : Tape) (result : Result T E) (f p : ℕ
 left-idle old new result f p kept is = elim (cases_lt (length old.log) old.call_room) [
   | inl room ↦ left-now_kept Idle old new result f p kept is room
   | inr past ↦ left-now_past Idle old new result f p kept is past
-  ]
+]
 
 -- contents of equal pages
 same_choices : (old new : Choices) → ((f p : ℕ) (c : List ℕ) → (old f p c → new f p c) × (new f p c → old f p c)) → Same old new
@@ -75,8 +74,8 @@ same_choices old new both = record { no_more = λ f p c. (both f p c).1; no_less
 -- where each page is as before a crash may leave the same
 same_left : (old new : Tape) (s t : ℕ) → ((f p : ℕ) → left_at new t f p ≡ left_at old s f p) → Same (choices_of old s) (choices_of new t)
 same_left old new s t same = same_choices (choices_of old s) (choices_of new t) (λ f p c.
-  let Q : Left → Type 0 = λ left. Contains left.contents c in
-  (subst Q (sym (same f p)), subst Q (same f p)))
+    let Q : Left → Type 0 = λ left. Contains left.contents c in
+    (subst Q (sym (same f p)), subst Q (same f p)))
 
 -- each call counts, and leaves what could be left at earlier moments
 pub keeps-past : {T E : Type 0} (call : Call) (old new : Tape) (result : Result T E) → Keeps call old new result → IsTape old → Advances old.calls new.calls (choices_of old) (choices_of new)
@@ -115,12 +114,12 @@ syncs-seen old new (Err e) syncs is = idle-seen old new (Err e) syncs.kept is
 -- after Ok a crash leaves just that
 pub syncs-durable : {T E : Type 0} (old new : Tape) (result : Result T E) → Syncs old new result → IsTape old → OnOk result (Only (image_of new) (choices_of new new.calls))
 syncs-durable old new (Ok x) syncs is = λ f p c left.
-  let at = left-sync old new x f p syncs is in
-  let Q : Left → Type 0 = λ l. Contains l.contents c in
-  elim (Contains-push_cases [] (left_at old old.calls f p).seen c (subst Q at left)) [
-  | inl none ↦ absurd (omega (arith, none.1))
-  | inr is_seen ↦ sym is_seen ∙ sym (ap (λ l. l.seen) at)
-  ]
+    let at = left-sync old new x f p syncs is in
+    let Q : Left → Type 0 = λ l. Contains l.contents c in
+    elim (Contains-push_cases [] (left_at old old.calls f p).seen c (subst Q at left)) [
+      | inl none ↦ absurd (omega (arith, none.1))
+      | inr is_seen ↦ sym is_seen ∙ sym (ap (λ l. l.seen) at)
+    ]
 syncs-durable old new (Err e) syncs is = tt
 
 -- after a failure it may leave the same as before
@@ -131,10 +130,10 @@ syncs-undone old new (Err e) syncs is = idle-crash old new (Err e) syncs.kept is
 -- and never more
 pub syncs-crash : {T E : Type 0} (old new : Tape) (result : Result T E) → Syncs old new result → IsTape old → NoMore (choices_of old old.calls) (choices_of new new.calls)
 syncs-crash old new (Ok x) syncs is = λ f p c left.
-  let only = syncs-durable old new (Ok x) syncs is f p c left in
-  let same : c ≡ image_of old f p = only ∙ ap (λ image. image f p) (syncs-seen old new (Ok x) syncs is) in
-  let Q : List ℕ → Type 0 = choices_of old old.calls f p in
-  subst Q (sym same) (seen_is_left old old.calls f p)
+    let only = syncs-durable old new (Ok x) syncs is f p c left in
+    let same : c ≡ image_of old f p = only ∙ ap (λ image. image f p) (syncs-seen old new (Ok x) syncs is) in
+    let Q : List ℕ → Type 0 = choices_of old old.calls f p in
+    subst Q (sym same) (seen_is_left old old.calls f p)
 syncs-crash old new (Err e) syncs is = (idle-crash old new (Err e) syncs.kept is).no_more
 
 -- a write at its page: one content more may be left, and it is read where the write was done
@@ -181,15 +180,15 @@ left-write : {T E : Type 0} (file page : ℕ) (content : List ℕ) (old new : Ta
 left-write file page content old new result f p writes is = elim (cases_Bool (is_full old file page)) [
   | inl full ↦ inl (left-idle old new result f p (kept_full file page content old new result writes full) is)
   | inr room ↦
-    let kept = kept_write file page content old new result writes room in
-    elim (cases_lt (length old.log) old.call_room) [
-    | inl within ↦ elim (one_place f p file page) [
-      | inl same ↦ inr (same.0, same.1, left-write_at file page content (is_ok result) old new result f p kept is within same.0 same.1)
-      | inr other ↦ inl (left-write_other file page content (is_ok result) old new result f p kept is within other)
+      let kept = kept_write file page content old new result writes room in
+      elim (cases_lt (length old.log) old.call_room) [
+        | inl within ↦ elim (one_place f p file page) [
+          | inl same ↦ inr (same.0, same.1, left-write_at file page content (is_ok result) old new result f p kept is within same.0 same.1)
+          | inr other ↦ inl (left-write_other file page content (is_ok result) old new result f p kept is within other)
+        ]
+        | inr past ↦ inl (left-now_past (Write (record { file = file; page = page; content = content; done = is_ok result })) old new result f p kept is past)
       ]
-    | inr past ↦ inl (left-now_past (Write (record { file = file; page = page; content = content; done = is_ok result })) old new result f p kept is past)
-    ]
-  ]
+]
 
 -- the written page after Ok
 left-written : {T E : Type 0} (file page : ℕ) (content : List ℕ) (old new : Tape) (x : T) (f p : ℕ) → Writes {T = T} {E = E} file page content old new (Ok x) → IsTape old → f ≡ file → p ≡ page
@@ -199,7 +198,7 @@ left-written file page content old new x f p writes is same_file same_page =
     let room : is_full old file page ≡ false = elim (cases_Bool (is_full old file page)) [
       | inl full ↦ absurd (false≢true (writes.failed.1 (inr (inl (is_full-true old file page full)))))
       | inr room ↦ room
-      ] in
+    ] in
     left-write_at file page content true old new (Ok x) f p (kept_write file page content old new (Ok x) writes room) is within same_file same_page
 
 -- after Ok the page reads as the content
@@ -210,8 +209,8 @@ writes-written file page content old new (Ok x) writes is = same_image _ _ (λ f
   | inr other ↦ elim (left-write file page content old new (Ok x) f p writes is) [
     | inl as_before ↦ ap (λ left. left.seen) as_before ∙ sym (with_page-other (image_of old) file page content f p other)
     | inr put ↦ absurd (other put.0 put.1)
-    ]
-  ])
+  ]
+])
 writes-written file page content old new (Err e) writes is = tt
 
 -- and after a failure as before
@@ -221,7 +220,7 @@ writes-seen file page content old new (Ok x) writes is = inr (writes-written fil
 writes-seen file page content old new (Err e) writes is = inl (same_image _ _ (λ f p. elim (left-write file page content old new (Err e) f p writes is) [
   | inl as_before ↦ ap (λ left. left.seen) as_before
   | inr put ↦ ap (λ left. left.seen) put.2
-  ]))
+]))
 
 -- after Ok it may leave the content there
 writes-may : {T E : Type 0} (file page : ℕ) (content : List ℕ) (old new : Tape) (result : Result T E) → Writes file page content old new result → IsTape old → OnOk result (choices_of new new.calls file page content)
@@ -240,11 +239,18 @@ writes-crash {T} {E} file page content old new result writes is = record {
     | inr put ↦ elim (Contains-push_cases (left_at old old.calls f p).contents content c (let Q : Left → Type 0 = λ l. Contains l.contents c in subst Q put.2 left)) [
       | inl was ↦ inl was
       | inr is_it ↦ inr (put.0, put.1, sym is_it)
-      ]
-    ];
+    ]
+  ];
   no_less = λ f p c left. elim (left-write file page content old new result f p writes is) [
     | inl as_before ↦ let Q : Left → Type 0 = λ l. Contains l.contents c in subst Q (sym as_before) left
     | inr put ↦ let Q : Left → Type 0 = λ l. Contains l.contents c in subst Q (sym put.2) (Contains-append_left (left_at old old.calls f p).contents (content ∷ []) c left)
-    ];
+  ];
   written = λ c _. writes-may file page content old new result writes is;
 }
+
+-- a call that changes nothing leaves the held pages
+pub spots-idle : {T E : Type 0} (old new : Tape) (result : Result T E) → Keeps Idle old new result → IsTape old → spots_of new ≡ spots_of old
+spots-idle old new result kept is = elim (cases_lt (length old.log) old.call_room) [
+  | inl room ↦ rw (kept.pages, take-now_kept Idle old new result kept is room) (fold_push spots_after (map spot_of old.pages) (take old.calls old.log) Idle)
+  | inr past ↦ rw (kept.pages, take-now_past Idle old new result kept is past) refl
+]

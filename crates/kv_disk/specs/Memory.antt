@@ -1,5 +1,5 @@
 -- A disk in memory that keeps its calls, and what a crash may leave of it.
-use Rattle.std.specs.Prelude.{◌≡◌, ℕ, ◌+◌, ◌^◌, ◌-◌, ◌≤◌, ◌<◌, ◌==◌, ◌&&◌, ◌⊎◌, ◌↔◌, nat_le, nat_lt, Bool, true, List, [], ◌∷◌, ◌++◌, length, map, min, take, Result, IsErr, IsNone, OnErr, is_none, is_ok, is_err, Contains, IsTrue, if◌then◌else◌, slice_index, slice_index_or, refl}
+use Rattle.std.specs.Prelude.{◌≡◌, ℕ, ◌^◌, ◌≤◌, ◌<◌, ◌&&◌, ◌⊎◌, ◌↔◌, nat_le, Bool, List, [], ◌∷◌, ◌++◌, length, map, min, take, Result, IsErr, IsNone, is_none, is_ok, is_err, Contains, if◌then◌else◌}
 use Rattle.kv_base.specs.Calls.{next_count}
 use Rattle.kv_base.specs.Image.{Image}
 use Rattle.kv_disk.specs.Disk.{Choices}
@@ -7,7 +7,7 @@ use Rattle.kv_disk.specs.declared.call.Held.{Held}
 use Rattle.kv_disk.specs.declared.call.Spot.{Spot}
 use Rattle.kv_disk.specs.declared.call.Call.{Call}
 use Rattle.kv_disk.specs.declared.call.Call.TheVariants.{Write, Sync, Idle}
-use Rattle.kv_disk.specs.Replay.{place_in, spot, spot_of, held_with, put_at, Left, left_in, spots_in, settled_in, length_in}
+use Rattle.kv_disk.specs.Replay.{place_in, spot, spot_of, held_with, put_at, Left, left_in, spots_in, settled_in}
 
 -- the pages before the first call, the calls in order as far as their room goes, the rooms for pages and for calls, the numbers of the calls that fail, and the counts
 pub record Tape : Type 0 where

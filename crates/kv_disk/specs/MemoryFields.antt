@@ -1,5 +1,5 @@
 -- What a disk in memory that keeps its calls keeps true of its fields.
-use Rattle.std.specs.Prelude.{◌≡◌, ℕ, ◌-◌, ◌^◌, ◌<◌, ◌≤◌, List, All, length, min, Vec, vec_len, vec_capacity}
+use Rattle.std.specs.Prelude.{◌≡◌, ℕ, ◌≤◌, List, All, length, min, Vec, vec_capacity}
 use Rattle.std.specs.declared.alloc.Global.{Global}
 use Rattle.kv_disk.specs.declared.call.Held.{Held}
 use Rattle.kv_disk.specs.declared.call.Spot.{Spot}

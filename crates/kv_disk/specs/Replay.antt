@@ -1,9 +1,8 @@
 -- What the calls of a disk in memory leave, from its pages before the first call.
-use Rattle.std.specs.Prelude.{◌≡◌, ℕ, ◌+◌, ◌-◌, ◌%◌, ◌^◌, ◌<◌, ◌==◌, ◌&&◌, ◌||◌, nat_lt, Bool, List, [], ◌∷◌, ◌++◌, length, map, filter, fold, count_by, position, Option, None, Some, Contains, slice_set, is_some, slice_index, slice_index_or, ⊤, if◌then◌else◌}
+use Rattle.std.specs.Prelude.{ℕ, ◌+◌, ◌-◌, ◌%◌, ◌^◌, ◌<◌, ◌==◌, ◌&&◌, ◌||◌, nat_lt, Bool, List, [], ◌∷◌, ◌++◌, length, map, filter, fold, count_by, position, Option, None, Some, slice_set, is_some, slice_index, slice_index_or, ⊤, if◌then◌else◌}
 use Rattle.kv_base.specs.Image.{zero_page}
 use Rattle.kv_disk.specs.declared.call.Held.{Held}
 use Rattle.kv_disk.specs.declared.call.Spot.{Spot}
-use Rattle.kv_disk.specs.declared.call.Write.{Write as Writing}
 use Rattle.kv_disk.specs.declared.call.Call.{Call}
 use Rattle.kv_disk.specs.declared.call.Call.TheVariants.{Write, Sync, Idle}
 

@@ -1,5 +1,5 @@
 -- What is read of a disk in memory is one of the contents that a crash may leave.
-use Rattle.std.specs.Prelude.{ℕ, ◌==◌, ◌&&◌, true, false, List, [], ◌∷◌, ◌++◌, take, fold, Contains, refl, if◌then◌else◌}
+use Rattle.std.specs.Prelude.{ℕ, ◌==◌, ◌&&◌, true, false, List, [], ◌∷◌, ◌++◌, take, fold, Contains, if◌then◌else◌}
 use Rattle.std.proofs.lemmas.List.Elements.{Contains-push, Contains-append_left}
 use Rattle.kv_disk.specs.Disk.{MayLeave}
 use Rattle.kv_disk.specs.declared.call.Call.{Call}
@@ -18,7 +18,7 @@ leaves_seen-call f p left (Write w) has =
     let put : LeavesSeen written = elim w.done as (λ b. Contains (left.contents ++ w.content ∷ []) (if b then w.content else left.seen)) [
       | true ↦ Contains-push left.contents w.content
       | false ↦ Contains-append_left left.contents (w.content ∷ []) left.seen has
-      ] in
+    ] in
     elim ((w.file == f) && (w.page == p)) as (λ b. LeavesSeen (if b then written else left)) [ true ↦ put | false ↦ has ]
 leaves_seen-call f p left Sync has = Contains-push [] left.seen
 leaves_seen-call f p left Idle has = has

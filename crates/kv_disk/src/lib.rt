@@ -4,9 +4,11 @@
 mod call;
 mod disk;
 mod memory;
+mod order;
 mod plain;
 mod replay;
 
 pub use disk::Disk;
 pub use memory::MemDisk;
+pub use order::write_in_order;
 pub use plain::PlainDisk;

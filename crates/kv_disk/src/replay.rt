@@ -156,7 +156,10 @@ fn chosen(
     ensures { IfOk result (λ content. content ≡ chosen_in start.now log.now choice.now file page) }
 {
     let left = left_after(alloc, start, log, file, page)?;
-    let choice = choice.get(rank_of(waiting, file, page)).copied().unwrap_or(0);
+    let choice = choice
+        .get(rank_of(waiting, file, page))
+        .copied()
+        .unwrap_or(0);
     Ok(left[choice as usize % left.len()])
 }
 

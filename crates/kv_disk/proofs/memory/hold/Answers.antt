@@ -1,10 +1,8 @@
 -- A new page reads as zeros, as it did before it was held.
-use Rattle.std.proofs.Common.{◌≡◌, ℕ, ◌<◌, ◌≤◌, [], ◌∷◌, ◌++◌, List, Some, None, length, refl, sym, ◌∙◌, ap, arith}
+use Rattle.std.proofs.Common.{◌≡◌, Some, None, length, refl, sym, ◌∙◌, ap}
 use Rattle.std.proofs.lemmas.Bool.{cond-true}
 use Rattle.kv_base.specs.Image.{zero_page}
-use Rattle.kv_disk.specs.declared.call.Spot.{Spot}
-use Rattle.kv_disk.specs.Plain.{content_at}
-use Rattle.kv_disk.specs.Replay.{place_in, spot}
+use Rattle.kv_disk.specs.Replay.{place_in}
 use Rattle.kv_disk.proofs.ImageLemmas.{test-at}
 use Rattle.kv_disk.proofs.SpotLemmas.{place_in-push, content-new}
 use Rattle.kv_disk.proofs.memory.hold.Goals as goal

@@ -1,5 +1,5 @@
 -- Past the last page there are zeros.
-use Rattle.std.proofs.Common.{◌≡◌, ℕ, List, sym, ◌∙◌, arith}
+use Rattle.std.proofs.Common.{sym, ◌∙◌, arith}
 use Rattle.std.proofs.lemmas.List.{at_drop_all}
 use Rattle.kv_base.specs.Image.{zero_page}
 use Rattle.kv_disk.specs.Replay.{start_of}

@@ -1,7 +1,6 @@
 -- The call is kept where there is room, and changes what is read of no page.
-use Rattle.std.proofs.Common.{◌≡◌, ℕ, ◌<◌, ◌≤◌, true, List, length, inl, inr, refl, sym, ◌∙◌, ap, arith, rules}
+use Rattle.std.proofs.Common.{inl, inr, refl, arith}
 use Rattle.kv_disk.specs.declared.call.Call.TheVariants.{Idle}
-use Rattle.kv_disk.specs.Memory.{IsPast, IsListed}
 use Rattle.kv_disk.proofs.MemoryLemmas.{noted-counted, noted-replayed, noted-fits, no_write-fits}
 use Rattle.kv_disk.proofs.memory.MemDisk.make.Goals as goal
 use Rattle.kv_disk.proofs.memory.MemDisk.make.Goals.{then-len-self-via-then-len-self, then-len-self-via-else-len-self+then-has}
@@ -18,10 +17,13 @@ invariant_of-self c =
     }
 
 pub returns-then-len-self-clause-failed : goal.returns-then-len-self-clause-failed
-returns-then-len-self-clause-failed c = (λ _. rw (← c.self.view_is) (elim c.then-len-self.branch [
-  | then-len-self-via-then-len-self w ↦ inl (omega (arith, w.if-len-self.true, c.len.ensures, c.self.inside.log.ok.0))
-  | then-len-self-via-else-len-self+then-has w ↦ inr (rw (← c.saturating_add-self-inside.ensures) (w.has.ensures.0 w.if-has.true))
-  ]), λ _. refl)
+returns-then-len-self-clause-failed c = (
+  λ _. rw (← c.self.view_is) (elim c.then-len-self.branch [
+    | then-len-self-via-then-len-self w ↦ inl (omega (arith, w.if-len-self.true, c.len.ensures, c.self.inside.log.ok.0))
+    | then-len-self-via-else-len-self+then-has w ↦ inr (rw (← c.saturating_add-self-inside.ensures) (w.has.ensures.0 w.if-has.true))
+  ]),
+  λ _. refl,
+)
 
 pub invariant_of-self-2 : goal.invariant_of-self-2
 invariant_of-self-2 c =

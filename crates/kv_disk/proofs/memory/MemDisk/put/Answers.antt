@@ -1,13 +1,12 @@
 -- The page is held, and reads as the write leaves it.
-use Rattle.std.proofs.Common.{◌≡◌, ℕ, ◌<◌, ◌≤◌, true, false, List, length, IsNone, inl, inr, refl, sym, ◌∙◌, ap, subst, arith, rules}
-use Rattle.std.specs.Prelude.{if◌then◌else◌}
-use Rattle.std.proofs.lemmas.Bool.{cond-false, true≢false, false≢true}
+use Rattle.std.proofs.Common.{◌≡◌, ◌<◌, ◌≤◌, true, false, List, length, IsNone, inl, inr, refl, sym, ◌∙◌, subst, arith}
+use Rattle.std.proofs.lemmas.Bool.{true≢false, false≢true}
 use Rattle.std.proofs.lemmas.List.{length-set}
 use Rattle.kv_disk.specs.declared.call.Spot.{Spot}
 use Rattle.kv_disk.specs.declared.call.Call.{Call}
-use Rattle.kv_disk.specs.declared.call.Call.TheVariants.{Idle, Write}
+use Rattle.kv_disk.specs.declared.call.Call.TheVariants.{Write}
 use Rattle.kv_disk.specs.Replay.{place_in, left_in}
-use Rattle.kv_disk.specs.Memory.{Keeps, is_full, spots_of}
+use Rattle.kv_disk.specs.Memory.{is_full, spots_of}
 use Rattle.kv_disk.proofs.MemoryLemmas.{noted-counted, noted-within, noted-fits, write-replayed, failed-seen, done-seen, spots-now, is_full-false}
 use Rattle.kv_disk.proofs.memory.MemDisk.put.Goals as goal
 
@@ -22,7 +21,7 @@ invariant_of-self-then-has c =
       rooms = record { for_start = is.rooms.for_start; for_spots = omega (arith, is.rooms.for_spots, c.hold.ensures.spots_room); for_contents = omega (arith, is.rooms.for_contents, c.hold.ensures.contents_room); for_calls = omega (arith, is.rooms.for_calls, c.note-then-has.ensures.capacity) };
       counted = rw c.saturating_add-self-inside.ensures (noted-counted was.log.items c.note-then-has.new.log.items was.call_room was.calls call c.note-then-has.ensures.items (omega arith) is.counted);
       replayed = rw longer (write-replayed was.start.items was.spots.items c.hold.new.spots.items was.contents.items c.hold.new.contents.items was.log.items c.args.file c.args.page c.args.content.now false is.replayed c.in-Some.ensures.held c.hold.ensures.as_many
-        (λ f p. c.hold.ensures.reads f p ∙ is.replayed.reads f p ∙ sym (failed-seen f p c.args.file c.args.page c.args.content.now (left_in was.start.items was.log.items f p))));
+          (λ f p. c.hold.ensures.reads f p ∙ is.replayed.reads f p ∙ sym (failed-seen f p c.args.file c.args.page c.args.content.now (left_in was.start.items was.log.items f p))));
       fits = noted-fits was.start.items was.log.items c.note-then-has.new.log.items was.call_room call c.note-then-has.ensures.items c.requires is.fits;
     }
 
@@ -35,8 +34,13 @@ returns-then-has-clause-writes c =
     record {
       failed = (λ _. inr (inr (rw (← c.self.view_is, ← c.saturating_add-self-inside.ensures) (c.has.ensures.0 c.if-has.true))), λ _. refl);
       kept = rw room (rw (← c.self.view_is) (record {
-        log = c.note-then-has.ensures.items; pages = refl; page_room = refl; call_room = refl; failing = refl;
-        calls = c.saturating_add-self-inside.ensures; faults = c.saturating_add-self-inside-then-has.ensures;
+        log = c.note-then-has.ensures.items;
+        pages = refl;
+        page_room = refl;
+        call_room = refl;
+        failing = refl;
+        calls = c.saturating_add-self-inside.ensures;
+        faults = c.saturating_add-self-inside-then-has.ensures;
       }));
     }
 
@@ -51,7 +55,7 @@ invariant_of-self-2 c =
       rooms = record { for_start = is.rooms.for_start; for_spots = omega (arith, is.rooms.for_spots, c.hold.ensures.spots_room); for_contents = omega (arith, is.rooms.for_contents, c.hold.ensures.contents_room); for_calls = omega (arith, is.rooms.for_calls, c.note-2.ensures.capacity) };
       counted = rw c.saturating_add-self-inside.ensures (noted-counted was.log.items c.note-2.new.log.items was.call_room was.calls call c.note-2.ensures.items (omega arith) is.counted);
       replayed = rw longer (write-replayed was.start.items was.spots.items c.hold.new.spots.items was.contents.items _ was.log.items c.args.file c.args.page c.args.content.now true is.replayed c.in-Some.ensures.held (length-set c.hold.new.contents.items c.in-Some.place c.args.content.now ∙ c.hold.ensures.as_many)
-        (λ f p. done-seen f p c.args.file c.args.page c.in-Some.place c.args.content.now c.hold.new.spots.items c.hold.new.contents.items (left_in was.start.items was.log.items f p) c.in-Some.ensures.place c.hold.ensures.as_many (c.hold.ensures.reads f p ∙ is.replayed.reads f p)));
+          (λ f p. done-seen f p c.args.file c.args.page c.in-Some.place c.args.content.now c.hold.new.spots.items c.hold.new.contents.items (left_in was.start.items was.log.items f p) c.in-Some.ensures.place c.hold.ensures.as_many (c.hold.ensures.reads f p ∙ is.replayed.reads f p)));
       fits = noted-fits was.start.items was.log.items c.note-2.new.log.items was.call_room call c.note-2.ensures.items c.requires is.fits;
     }
 
@@ -64,15 +68,23 @@ returns-clause-writes c =
     let room : is_full c.args.self.now c.args.file c.args.page ≡ false = is_full-false c.args.self.now was.spots.items c.args.file c.args.page are no_place in
     let within : c.args.self.now.call_room ≤ length c.args.self.now.log → ⊥ = rw (← c.self.view_is) (λ past. omega (arith, c.if-len-self.false, c.len.ensures, was.log.ok.0, past)) in
     record {
-      failed = (λ failed. absurd (false≢true failed), λ why. elim why [
-        | inl past ↦ absurd (within past)
-        | inr other ↦ elim other [
-          | inl full ↦ absurd (no_place (let Q : List Spot → Type 0 = λ s. IsNone (place_in s c.args.file c.args.page) × (c.args.self.now.page_room ≤ length s) in subst Q are full))
-          | inr listed ↦ absurd (true≢false (sym (c.has.ensures.1 (rw (c.saturating_add-self-inside.ensures) (rw (← c.self.view_is) at listed))) ∙ c.if-has.false))
+      failed = (
+        λ failed. absurd (false≢true failed),
+        λ why. elim why [
+          | inl past ↦ absurd (within past)
+          | inr other ↦ elim other [
+            | inl full ↦ absurd (no_place (let Q : List Spot → Type 0 = λ s. IsNone (place_in s c.args.file c.args.page) × (c.args.self.now.page_room ≤ length s) in subst Q are full))
+            | inr listed ↦ absurd (true≢false (sym (c.has.ensures.1 (rw (c.saturating_add-self-inside.ensures) (rw (← c.self.view_is) at listed))) ∙ c.if-has.false))
           ]
-        ]);
+        ],
+      );
       kept = rw room (rw (← c.self.view_is) (record {
-        log = c.note-2.ensures.items; pages = refl; page_room = refl; call_room = refl; failing = refl;
-        calls = c.saturating_add-self-inside.ensures; faults = refl;
+        log = c.note-2.ensures.items;
+        pages = refl;
+        page_room = refl;
+        call_room = refl;
+        failing = refl;
+        calls = c.saturating_add-self-inside.ensures;
+        faults = refl;
       }));
     }

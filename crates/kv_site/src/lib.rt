@@ -7,7 +7,10 @@ mod file_disk;
 mod file_site;
 mod folder;
 mod page_io;
+mod shelf;
+mod shelves;
 mod site;
+mod tally;
 
 pub use ends::{Input, Output};
 pub use fault::TakeFault;

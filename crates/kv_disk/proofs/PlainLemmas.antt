@@ -29,7 +29,7 @@ content_at-set_other contents None i content other = refl
 content_at-set_other contents (Some j) i content other = get_or-set_other contents i j content zero_page (λ same. other (ap Some same))
 
 -- and where one is put behind the others
-content_at-push_other : (contents : List (List ℕ)) (o : Option ℕ) (content : List ℕ) → ((j : ℕ) → o ≡ Some j → j < length contents) → content_at (contents ++ content ∷ []) o ≡ content_at contents o
+pub content_at-push_other : (contents : List (List ℕ)) (o : Option ℕ) (content : List ℕ) → ((j : ℕ) → o ≡ Some j → j < length contents) → content_at (contents ++ content ∷ []) o ≡ content_at contents o
 content_at-push_other contents None content within = refl
 content_at-push_other contents (Some j) content within = get_or_append_left contents (content ∷ []) zero_page j (within j refl)
 

@@ -1,0 +1,19 @@
+//! Where a command takes its disks and its ends from: the trait, one that stands in memory, and one over real files.
+#![tactic(auto)]
+
+mod ends;
+mod fault;
+mod file_disk;
+mod file_site;
+mod folder;
+mod page_io;
+mod shelf;
+mod shelves;
+mod site;
+mod tally;
+
+pub use ends::{Input, Output};
+pub use fault::TakeFault;
+pub use file_disk::FileDisk;
+pub use file_site::FileSite;
+pub use site::Site;

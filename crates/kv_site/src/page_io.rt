@@ -1,0 +1,47 @@
+ghost use Rattle.std.specs.Prelude.{◌≡◌, ◌-◌, ◌≤◌, drop, replicate, IfOk};
+
+use std::fs::OpenFile;
+use std::io;
+use std::os::unix::fs::FileExt;
+
+/// Bytes of a page.
+pub const PAGE: usize = 4096;
+
+/// Reads a page that begins at the offset, and answers how many of its bytes the file has. The rest
+/// is zeros. A read that gives fewer bytes goes on until one gives none.
+pub fn read_page<F: FileExt>(file: &F, offset: u64, page: &mut [u8; 4096]) -> io::Result<usize>
+    ensures rest { IfOk result (λ n. (n ≤ 4096) × (drop n page.new ≡ replicate (4096 - n) 0)) }
+{
+    let mut at = 0;
+    while at < PAGE {
+        let n = file.read_at(&mut page[at..], offset.wrapping_add(at as u64))?;
+        if n == 0 {
+            page[at..].fill(0);
+            return Ok(at);
+        }
+        at += n;
+    }
+    Ok(at)
+}
+
+/// Writes a page at the offset, and answers how many of its bytes the file took: all of them. A
+/// write that takes fewer goes on, and one that takes none is an error.
+pub fn write_page<F: FileExt>(file: &F, offset: u64, page: &[u8; 4096]) -> io::Result<usize>
+    ensures whole { IfOk result (λ n. n ≡ 4096) }
+{
+    let mut at = 0;
+    while at < PAGE {
+        match file.write_at(&page[at..], offset.wrapping_add(at as u64))? {
+            0 => return Err(io::Error::from(io::ErrorKind::WriteZero)),
+            n => at += n,
+        }
+    }
+    Ok(at)
+}
+
+/// How many pages a file has, the last one perhaps in part. A file past the last page that can be
+/// named has as many as can be named.
+pub fn page_count<F: OpenFile>(file: &F) -> io::Result<u32> {
+    let pages = file.metadata()?.len().div_ceil(PAGE as u64);
+    Ok(u32::try_from(pages).unwrap_or(u32::MAX))
+}

@@ -14,7 +14,7 @@ use Rattle.kv_model.specs.Layout.{only_class}
 use Rattle.kv_model.specs.Pairs.{Pair, acknowledged_by, key_of, stamp_of, stamps, writes}
 use Rattle.kv_model.specs.Agreement.{IsAnswer, IsMapAnswer, IsRead, refusal_of, AgreesWithMap}
 use Rattle.kv_model.specs.Order.{RespectsOrder, IsAfter, Rises}
-use Rattle.kv_serve.specs.Causes.{RoseBy, faults_told, faults_of, ClosesBehindUnsure, IsFullAtLimit, HasKeys, Writes}
+use Rattle.kv_serve.specs.Causes.{RoseBy, is_unsure, any_unsure, faults_told, faults_of, ClosesBehindUnsure, IsFullAtLimit, HasKeys, Writes}
 use Rattle.kv_serve.specs.Store.{Holds, Steps}
 use Rattle.kv_serve.specs.Run.{Runs}
 use Rattle.kv_serve.specs.Answers.{HasAnswers}
@@ -205,6 +205,14 @@ full_later history more (Unsure stamp) h = h
 full_later history more Closed h = h
 full_later history more (Malformed offset) h = h
 
+or_false : (b : Bool) → b ≡ (b || false)
+or_false true = refl
+or_false false = refl
+
+or_assoc : (a b c : Bool) → ((a || b) || c) ≡ (a || (b || c))
+or_assoc true b c = refl
+or_assoc false b c = refl
+
 module _ {D : Type 0} {d : Ghosts D} where
   -- the stamps of a run rise from the store's next one on
   run_rises : (pairs : List Pair) (old new : Store D d) → Runs Steps old pairs new → RisesWithin old.next new.next (stamps pairs)
@@ -243,6 +251,11 @@ module _ {D : Type 0} {d : Ghosts D} where
   run_faults : (pairs : List Pair) (old new : Store D d) → Runs Steps old pairs new → RoseBy (faults_of pairs) (d.faults old.disk) (d.faults new.disk)
   run_faults [] old new runs = rw runs (omega arith)
   run_faults (pair ∷ pairs) old new runs = rose_more (faults_told pair.reply) (faults_of pairs) (d.faults old.disk) (d.faults runs.0.disk) (d.faults new.disk) runs.1.cause (run_faults pairs runs.0 new runs.2)
+
+  -- the store is closed exactly where a reply of the run was unsure, or where it was before
+  pub run_unsure : (pairs : List Pair) (old new : Store D d) → Runs Steps old pairs new → new.closed ≡ (old.closed || any_unsure pairs)
+  run_unsure [] old new runs = ap (λ store. store.closed) runs ∙ or_false old.closed
+  run_unsure (pair ∷ pairs) old new runs = run_unsure pairs runs.0 new runs.2 ∙ rw runs.1.closing (or_assoc old.closed (is_unsure pair.reply) (any_unsure pairs))
 
   -- a run of a new store has its answers
   pub run_has_answers : (before : D) (pairs : List Pair) (old new : Store D d) → Holds old [] → old.next ≡ 1 → old.closed ≡ false → new.next ≤ 2 ^ 62 → d.faults before ≤ d.faults old.disk → Runs Steps old pairs new → HasAnswers d before new.disk pairs

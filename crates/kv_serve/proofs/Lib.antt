@@ -5,3 +5,4 @@ pub mod RunLemmas
 pub mod SessionLemmas
 pub mod StoreLemmas
 pub mod AnswerLemmas
+pub mod ServeLemmas

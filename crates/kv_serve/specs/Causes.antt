@@ -1,6 +1,6 @@
 -- What shows the cause of each refusal.
 use Rattle.std.specs.Prelude.{◌≡◌, ◌≢◌, ℕ, ◌+◌, ◌-◌, ◌^◌, ◌≤◌, ◌↔◌, ◌||◌, ◌⊎◌, min, List, [], ◌∷◌, length, Option, None, Bool, true, false, ⊤}
-use Rattle.std.specs.List.{AllByRecursion, sum_by}
+use Rattle.std.specs.List.{AllByRecursion}
 use Rattle.kv_base.specs.declared.reply.Reply.{Reply}
 use Rattle.kv_base.specs.declared.reply.Reply.TheVariants.{Stored, Found, Missing, BadKey, TooLarge, Full, NoMemory, DiskFault, Unsure, Closed, Malformed}
 use Rattle.kv_model.specs.Pairwise.{Pairwise}
@@ -43,7 +43,8 @@ faults_told (Malformed offset) = 0
 
 -- how many faults of the disk the replies tell of
 abbrev pub faults_of : List Pair → ℕ
-faults_of pairs = sum_by (λ pair. faults_told pair.reply) pairs
+faults_of [] = 0
+faults_of (pair ∷ pairs) = faults_told pair.reply + faults_of pairs
 
 -- whether a reply says that a write may be on disk or not
 abbrev pub any_unsure : List Pair → Bool

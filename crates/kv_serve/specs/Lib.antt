@@ -8,3 +8,4 @@ pub mod Session
 pub mod Run
 pub mod Answers
 pub mod Words
+pub mod Serve

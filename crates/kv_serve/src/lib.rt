@@ -2,26 +2,31 @@
 #![tactic(auto)]
 
 mod answer;
+mod ended;
+mod ending;
+mod fill;
 mod found;
 mod get;
+mod give_back;
 mod item;
+mod made;
 mod open;
 mod pages;
 mod place;
 mod put;
-mod sizes;
-mod store;
-mod ending;
-mod fill;
 mod runs;
 mod send;
+mod serve;
+mod serve_disk;
 mod session;
+mod sizes;
+mod store;
+mod top;
 mod window;
 mod words;
 mod worker;
 
-pub use ending::{Ending, Endings, Finished};
-pub use fill::Ready;
-pub use runs::run;
-pub use session::Session;
-pub use worker::Worker;
+pub use ended::{Ended, Refused};
+pub use ending::{Ending, Endings};
+pub use open::OpenFault;
+pub use top::run_words;

@@ -6,6 +6,8 @@ mod fill;
 mod runs;
 mod send;
 mod session;
+#[cfg(test)]
+mod session_tests;
 mod window;
 mod worker;
 

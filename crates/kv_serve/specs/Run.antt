@@ -24,15 +24,20 @@ pub record Streams (So Si : Type 0) : Type 0 where
 abbrev pub pairs_of : List Request → List Reply → List Pair
 pairs_of [] replies = []
 pairs_of (request ∷ requests) [] = []
-pairs_of (request ∷ requests) (reply ∷ replies) = record { request = request; reply = reply } ∷ pairs_of requests replies
+pairs_of (request ∷ requests) (reply ∷ replies) =
+    record { request = request; reply = reply } ∷ pairs_of requests replies
 
 -- the steps lead from one state to another, one step for each pair, in order
 abbrev pub Runs : {S : Type 0} → (S → Request → Reply → S → Type 0) → S → List Pair → S → Type 0
 Runs {S = S} steps old [] new = new ≡ old
-Runs {S = S} steps old (pair ∷ pairs) new = (between : S) × steps old pair.request pair.reply between × Runs steps between pairs new
+Runs {S = S} steps old (pair ∷ pairs) new = (between : S)
+    × steps old pair.request pair.reply between × Runs steps between pairs new
 
--- the request at the front was answered and used up, and its reply went out, or stands in what is left
-pub record Answers {W So Si : Type 0} (streams : Streams So Si) (steps : W → Request → Reply → W → Type 0) (before now : W) (old new : SessionState So Si) (left : List Reply) : Type 0 where
+-- the request at the front was answered and used up, and its reply went out, or stands in what is
+-- left
+pub record Answers {W So Si : Type 0} (streams : Streams So Si)
+    (steps : W → Request → Reply → W → Type 0) (before now : W) (old new : SessionState So Si)
+    (left : List Reply) : Type 0 where
   pub request : Request
   pub reply : Reply
   pub given : List ℕ
@@ -45,8 +50,11 @@ pub record Answers {W So Si : Type 0} (streams : Streams So Si) (steps : W → R
   pub taken : new.taken ≡ old.taken
   pub ended : new.ended ≡ old.ended
 
--- requests were answered and used up, each before the next one, and their replies went out, but for what is left
-pub record AnswersAll {W So Si : Type 0} (streams : Streams So Si) (steps : W → Request → Reply → W → Type 0) (before now : W) (old new : SessionState So Si) (left : List Reply) : Type 0 where
+-- requests were answered and used up, each before the next one, and their replies went out, but for
+-- what is left
+pub record AnswersAll {W So Si : Type 0} (streams : Streams So Si)
+    (steps : W → Request → Reply → W → Type 0) (before now : W) (old new : SessionState So Si)
+    (left : List Reply) : Type 0 where
   pub bytes : List ℕ
   pub given : List ℕ
   pub handled : List Request
@@ -60,21 +68,27 @@ pub record AnswersAll {W So Si : Type 0} (streams : Streams So Si) (steps : W �
   pub out : GoesOut replies given left
   pub runs : Runs steps before (pairs_of handled replies) now
 
--- a session ends behind its last request, for a cause that its bytes show, and what it replies then went out, or is left
-pub record EndsBy {So Si : Type 0} (streams : Streams So Si) (old new : SessionState So Si) (cause : Cause) (left : List Reply) : Type 0 where
+-- a session ends behind its last request, for a cause that its bytes show, and what it replies then
+-- went out, or is left
+pub record EndsBy {So Si : Type 0} (streams : Streams So Si) (old new : SessionState So Si)
+    (cause : Cause) (left : List Reply) : Type 0 where
   pub closing : List Reply
   pub given : List ℕ
   pub framed : AllByRecursion HasReplyFrame closing
-  pub closes : (bytes : List ℕ) → length bytes ≡ old.taken → Closes cause bytes old.waiting old.ended closing
+  pub closes : (bytes : List ℕ) → length bytes ≡ old.taken
+      → Closes cause bytes old.waiting old.ended closing
   pub took : Takes (streams.held old.sink) (streams.held new.sink) given
   pub out : GoesOut closing given left
   pub leaves : Leaves cause left
   pub kept : KeepsTaken old new
   pub sink_later : streams.sink_faults old.sink ≤ streams.sink_faults new.sink
-  pub sink_rose : cause ≡ SinkFault → Rose (streams.sink_faults old.sink) (streams.sink_faults new.sink)
+  pub sink_rose : cause ≡ SinkFault → Rose (streams.sink_faults old.sink)
+      (streams.sink_faults new.sink)
 
 -- what a session did from its first state to its last
-pub record Ends {W So Si : Type 0} (streams : Streams So Si) (steps : W → Request → Reply → W → Type 0) (before now : W) (old new : SessionState So Si) (cause : Cause) (left : List Reply) : Type 0 where
+pub record Ends {W So Si : Type 0} (streams : Streams So Si)
+    (steps : W → Request → Reply → W → Type 0) (before now : W) (old new : SessionState So Si)
+    (cause : Cause) (left : List Reply) : Type 0 where
   pub bytes : List ℕ
   pub given : List ℕ
   pub handled : List Request
@@ -87,11 +101,16 @@ pub record Ends {W So Si : Type 0} (streams : Streams So Si) (steps : W → Requ
   pub runs : Runs steps before (pairs_of handled replies) now
   pub source_later : streams.source_faults old.source ≤ streams.source_faults new.source
   pub sink_later : streams.sink_faults old.sink ≤ streams.sink_faults new.sink
-  pub source_rose : cause ≡ SourceFault → Rose (streams.source_faults old.source) (streams.source_faults new.source)
-  pub sink_rose : cause ≡ SinkFault → Rose (streams.sink_faults old.sink) (streams.sink_faults new.sink)
+  pub source_rose : cause ≡ SourceFault
+      → Rose (streams.source_faults old.source) (streams.source_faults new.source)
+  pub sink_rose : cause ≡ SinkFault → Rose (streams.sink_faults old.sink)
+      (streams.sink_faults new.sink)
 
--- a session from its first byte to its end: the bytes that it took, the requests in them, the worker's replies to them, what went out of these and what is left, and why it ended
-pub record HasSession {W So Si : Type 0} (streams : Streams So Si) (steps : W → Request → Reply → W → Type 0) (before now : W) (session : SessionState So Si) (finished : Finished So Si) : Type 0 where
+-- a session from its first byte to its end: the bytes that it took, the requests in them, the
+-- worker's replies to them, what went out of these and what is left, and why it ended
+pub record HasSession {W So Si : Type 0} (streams : Streams So Si)
+    (steps : W → Request → Reply → W → Type 0) (before now : W) (session : SessionState So Si)
+    (finished : Finished So Si) : Type 0 where
   pub bytes : List ℕ
   pub ended : Bool
   pub given : List ℕ
@@ -101,9 +120,12 @@ pub record HasSession {W So Si : Type 0} (streams : Streams So Si) (steps : W �
   pub took : Takes (streams.held session.sink) (streams.held finished.sink) given
   pub counted : finished.ending.taken ≡ length bytes
   pub spent : ended ≡ true → IsSpent (streams.stream finished.source)
-  pub transcript : HasTranscript bytes ended given finished.ending.undelivered.items finished.ending.cause handled replies
+  pub transcript : HasTranscript bytes ended given finished.ending.undelivered.items
+      finished.ending.cause handled replies
   pub runs : Runs steps before (pairs_of handled replies) now
   pub source_later : streams.source_faults session.source ≤ streams.source_faults finished.source
   pub sink_later : streams.sink_faults session.sink ≤ streams.sink_faults finished.sink
-  pub source_rose : finished.ending.cause ≡ SourceFault → Rose (streams.source_faults session.source) (streams.source_faults finished.source)
-  pub sink_rose : finished.ending.cause ≡ SinkFault → Rose (streams.sink_faults session.sink) (streams.sink_faults finished.sink)
+  pub source_rose : finished.ending.cause ≡ SourceFault
+      → Rose (streams.source_faults session.source) (streams.source_faults finished.source)
+  pub sink_rose : finished.ending.cause ≡ SinkFault
+      → Rose (streams.sink_faults session.sink) (streams.sink_faults finished.sink)

@@ -8,7 +8,8 @@ use Rattle.kv_model.specs.Frames.{BeginsWithRequest, BeginsWithNoRequest, IsPart
 use Rattle.kv_serve.specs.declared.fill.Ready.{Ready}
 use Rattle.kv_serve.specs.declared.fill.Ready.TheVariants as ready
 
--- a session: the bytes that were taken and not used up, how many were taken, and whether the input ended behind them
+-- a session: the bytes that were taken and not used up, how many were taken, and whether the input
+-- ended behind them
 pub record SessionState (So Si : Type 0) : Type 0 where
   pub source : So
   pub sink : Si
@@ -23,7 +24,8 @@ pub record IsNew {So Si : Type 0} (session : SessionState So Si) : Type 0 where
   pub goes_on : session.ended ≡ false
 
 -- bytes passed from the source and stand behind those that waited, and they are counted
-pub record Arrives (before now : Option Stream) (waiting after : List ℕ) (count total : ℕ) : Type 0 where
+pub record Arrives (before now : Option Stream) (waiting after : List ℕ) (count total : ℕ) : Type 0
+    where
   pub bytes : List ℕ
   pub passed : Passes before now bytes
   pub behind : after ≡ waiting ++ bytes
@@ -65,7 +67,8 @@ pub record NeedsMore (waiting : List ℕ) (ended : Bool) (taken : ℕ) : Type 0 
   pub undecided : GoesOn waiting ended
   pub below : taken < 2 ^ 40
 
--- the session stays as it was where a request stands at the front, or what never becomes one, or where the input has ended
+-- the session stays as it was where a request stands at the front, or what never becomes one, or
+-- where the input has ended
 pub record StaysDecided {So Si : Type 0} (old new : SessionState So Si) : Type 0 where
   pub front : HasRequest old.waiting → new ≡ old
   pub bad : IsMalformed old.waiting → new ≡ old

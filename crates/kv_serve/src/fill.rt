@@ -28,8 +28,10 @@ impl<So: Source, Si: Sink> Session<So, Si> {
     /// Reads until a whole request stands at the front, or until no more bytes come or could help.
     /// It reads nothing where what stands at the front, or the end of the input, decides already.
     pub fn fill(&mut self) -> Ready
-        ensures ready { IsReady result self.new.waiting self.new.ended self.new.taken (So.faults self.old.source) (So.faults self.new.source) }
-        ensures arrives { Arrives (So.stream self.old.source) (So.stream self.new.source) self.old.waiting self.new.waiting self.old.taken self.new.taken }
+        ensures ready { IsReady result self.new.waiting self.new.ended self.new.taken
+            (So.faults self.old.source) (So.faults self.new.source) }
+        ensures arrives { Arrives (So.stream self.old.source) (So.stream self.new.source)
+            self.old.waiting self.new.waiting self.old.taken self.new.taken }
         ensures spent { self.new.ended ≡ true → IsSpent (So.stream self.new.source) }
         ensures limit { self.new.taken ≤ 2 ^ 40 }
         ensures later { So.faults self.old.source ≤ So.faults self.new.source }
@@ -52,7 +54,9 @@ impl<So: Source, Si: Sink> Session<So, Si> {
 
     /// What stands at the front; `None` where more bytes can decide it.
     fn look(&self) -> Option<Ready>
-        ensures ready { MatchOption result (NeedsMore self.now.waiting self.now.ended self.now.taken) (λ ready. (n : ℕ) → IsReady ready self.now.waiting self.now.ended self.now.taken n n) }
+        ensures ready { MatchOption result (NeedsMore self.now.waiting self.now.ended
+            self.now.taken) (λ ready. (n : ℕ) → IsReady ready self.now.waiting self.now.ended
+            self.now.taken n n) }
         ensures spent { self.now.ended ≡ true → IsSpent (So.stream self.now.source) }
         ensures limit { self.now.taken ≤ 2 ^ 40 }
     {
@@ -83,7 +87,8 @@ fn look_behind(waiting: &[u8], ended: bool, taken: u64) -> Option<Ready>
     requires none { BeginsWithNoRequest waiting.now }
     requires good { IsMalformed waiting.now → ⊥ }
     requires limit { taken ≤ 2 ^ 40 }
-    ensures { MatchOption result (NeedsMore waiting.now ended taken) (λ ready. (n : ℕ) → IsReady ready waiting.now ended taken n n) }
+    ensures { MatchOption result (NeedsMore waiting.now ended taken)
+        (λ ready. (n : ℕ) → IsReady ready waiting.now ended taken n n) }
 {
     if ended {
         return Some(if waiting.is_empty() {

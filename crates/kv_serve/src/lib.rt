@@ -22,6 +22,8 @@ mod session;
 mod sizes;
 mod store;
 mod top;
+#[cfg(test)]
+mod session_tests;
 mod window;
 mod words;
 mod worker;

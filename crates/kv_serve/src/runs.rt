@@ -25,7 +25,9 @@ pub fn run<W: Worker, So: Source, Si: Sink>(
     requires new { IsNew session }
     requires empty { undelivered.items ≡ [] }
     requires spare { 0 < undelivered.spare }
-    ensures session { let streams : Streams So Si = record { stream = So.stream; source_faults = So.faults; held = Si.held; sink_faults = Si.faults } in HasSession streams W.steps worker.old worker.new session result }
+    ensures session { let streams : Streams So Si =
+        record { stream = So.stream; source_faults = So.faults; held = Si.held; sink_faults =
+        Si.faults } in HasSession streams W.steps worker.old worker.new session result }
     ensures less { W.room worker.old ≤ W.room worker.new + 2 ^ 40 }
 {
     let (cause, unsent) = run_to_end(worker, &mut session);
@@ -60,7 +62,10 @@ fn run_to_end<W: Worker, So: Source, Si: Sink>(
 ) -> (Cause, Option<Reply>)
     requires room { 2 ^ 40 ≤ W.room worker.old }
     requires new { IsNew session.old }
-    ensures ends { let streams : Streams So Si = record { stream = So.stream; source_faults = So.faults; held = Si.held; sink_faults = Si.faults } in Ends streams W.steps worker.old worker.new session.old session.new result.0 (option_to_list result.1) }
+    ensures ends { let streams : Streams So Si =
+        record { stream = So.stream; source_faults = So.faults; held = Si.held; sink_faults =
+        Si.faults } in Ends streams W.steps worker.old worker.new session.old session.new result.0
+        (option_to_list result.1) }
     ensures less { W.room worker.old ≤ W.room worker.new + 2 ^ 40 }
 {
     match answer_all(worker, session) {
@@ -77,9 +82,14 @@ fn answer_all<W: Worker, So: Source, Si: Sink>(
 ) -> Result<Ready, Reply>
     requires room { 2 ^ 40 ≤ W.room worker.old }
     requires new { IsNew session.old }
-    ensures all { let streams : Streams So Si = record { stream = So.stream; source_faults = So.faults; held = Si.held; sink_faults = Si.faults } in MatchResult result (λ _. AnswersAll streams W.steps worker.old worker.new session.old session.new []) (λ reply. AnswersAll streams W.steps worker.old worker.new session.old session.new (reply ∷ [])) }
+    ensures all { let streams : Streams So Si =
+        record { stream = So.stream; source_faults = So.faults; held = Si.held; sink_faults =
+        Si.faults } in MatchResult result (λ _. AnswersAll streams W.steps worker.old worker.new
+        session.old session.new []) (λ reply. AnswersAll streams W.steps worker.old worker.new
+        session.old session.new (reply ∷ [])) }
     ensures last { IfOk result (λ ready. ready ≢ Ready.Request) }
-    ensures ready { IfOk result (λ ready. IsReady ready session.new.waiting session.new.ended session.new.taken (So.faults session.old.source) (So.faults session.new.source)) }
+    ensures ready { IfOk result (λ ready. IsReady ready session.new.waiting session.new.ended
+        session.new.taken (So.faults session.old.source) (So.faults session.new.source)) }
     ensures spent { session.new.ended ≡ true → IsSpent (So.stream session.new.source) }
     ensures later { So.faults session.old.source ≤ So.faults session.new.source }
     ensures cause { HasCause (Si.faults session.old.sink) (Si.faults session.new.sink) result }
@@ -104,7 +114,11 @@ fn answer_front<W: Worker, So: Source, Si: Sink>(
 ) -> Result<(), Reply>
     requires room { 0 < W.room worker.old }
     requires request { HasRequest session.old.waiting }
-    ensures answers { let streams : Streams So Si = record { stream = So.stream; source_faults = So.faults; held = Si.held; sink_faults = Si.faults } in MatchResult result (λ _. Answers streams W.steps worker.old worker.new session.old session.new []) (λ reply. Answers streams W.steps worker.old worker.new session.old session.new (reply ∷ [])) }
+    ensures answers { let streams : Streams So Si =
+        record { stream = So.stream; source_faults = So.faults; held = Si.held; sink_faults =
+        Si.faults } in MatchResult result (λ _. Answers streams W.steps worker.old worker.new
+        session.old session.new []) (λ reply. Answers streams W.steps worker.old worker.new
+        session.old session.new (reply ∷ [])) }
     ensures cause { HasCause (Si.faults session.old.sink) (Si.faults session.new.sink) result }
     ensures less { W.room worker.old ≤ W.room worker.new + 1 }
 {
@@ -120,8 +134,12 @@ fn close<So: Source, Si: Sink>(
     ready: Ready,
 ) -> (Cause, Option<Reply>)
     requires { ready ≢ Ready.Request }
-    ensures ends { (before now : ℕ) → IsReady ready session.old.waiting session.old.ended session.old.taken before now → let streams : Streams So Si = record { stream = So.stream; source_faults = So.faults; held = Si.held; sink_faults = Si.faults } in EndsBy streams session.old session.new result.0 (option_to_list result.1) }
-    ensures rose { (before now : ℕ) → IsReady ready session.old.waiting session.old.ended session.old.taken before now → result.0 ≡ Cause.SourceFault → Rose before now }
+    ensures ends { (before now : ℕ) → IsReady ready session.old.waiting session.old.ended
+        session.old.taken before now → let streams : Streams So Si =
+        record { stream = So.stream; source_faults = So.faults; held = Si.held; sink_faults =
+        Si.faults } in EndsBy streams session.old session.new result.0 (option_to_list result.1) }
+    ensures rose { (before now : ℕ) → IsReady ready session.old.waiting session.old.ended
+        session.old.taken before now → result.0 ≡ Cause.SourceFault → Rose before now }
 {
     match ready {
         Ready::Request => unreachable!(),
@@ -134,7 +152,9 @@ fn close<So: Source, Si: Sink>(
 
 /// Tells the client that the bytes at the front are no request.
 fn close_malformed<So: Source, Si: Sink>(session: &mut Session<So, Si>) -> (Cause, Option<Reply>)
-    ensures ends { IsStuck session.old.waiting session.old.ended → let streams : Streams So Si = record { stream = So.stream; source_faults = So.faults; held = Si.held; sink_faults = Si.faults } in EndsBy streams session.old session.new result.0 (option_to_list result.1) }
+    ensures ends { IsStuck session.old.waiting session.old.ended → let streams : Streams So Si =
+        record { stream = So.stream; source_faults = So.faults; held = Si.held; sink_faults =
+        Si.faults } in EndsBy streams session.old session.new result.0 (option_to_list result.1) }
     ensures other { result.0 ≢ Cause.SourceFault }
 {
     let offset = session.taken() - session.waiting().len() as u64;

@@ -36,16 +36,19 @@ impl<So: Source, Si: Sink> Model for Session<So, Si> {
 
     ghost Value = { SessionState So Si };
 
-    ghost view = { λ s. record { source = s.source; sink = s.sink; waiting = s.window; taken = s.taken; ended = s.ended } };
+    ghost view = { λ s. record { source = s.source; sink = s.sink; waiting = s.window; taken =
+        s.taken; ended = s.ended } };
 
-    ghost invariant = { λ s. (66004 ≤ vec_capacity s.frame) × (length s.window ≤ s.taken) × (s.taken ≤ 2 ^ 40) × (s.ended ≡ true → IsSpent (So.stream s.source)) };
+    ghost invariant = { λ s. (66004 ≤ vec_capacity s.frame) × (length s.window ≤ s.taken)
+        × (s.taken ≤ 2 ^ 40) × (s.ended ≡ true → IsSpent (So.stream s.source)) };
 }
 
 impl<So: Source, Si: Sink> Session<So, Si> {
     /// A session that took no byte so far. Takes the buffers for the longest frames; want of memory
     /// hands source and sink back.
     pub fn new(alloc: Global, source: So, sink: Si) -> Result<Session<So, Si>, (So, Si, NoMemory)>
-        ensures ok { IfOk result (λ session. IsNew session × (session.source ≡ source) × (session.sink ≡ sink)) }
+        ensures ok { IfOk result (λ session. IsNew session × (session.source ≡ source)
+            × (session.sink ≡ sink)) }
         ensures err { IfErr result (λ e. (e.0 ≡ source) × (e.1 ≡ sink)) }
     {
         let Ok(window) = Window::new(alloc) else {
@@ -112,9 +115,11 @@ impl<So: Source, Si: Sink> Session<So, Si> {
         requires short { length self.old.waiting < 66004 }
         requires limit { self.old.taken < 2 ^ 40 }
         requires goes_on { self.old.ended ≡ false }
-        ensures arrives { Arrives (So.stream self.old.source) (So.stream self.new.source) self.old.waiting self.new.waiting self.old.taken self.new.taken }
+        ensures arrives { Arrives (So.stream self.old.source) (So.stream self.new.source)
+            self.old.waiting self.new.waiting self.old.taken self.new.taken }
         ensures some { OnOk result (self.new.ended ≡ false → self.old.taken < self.new.taken) }
-        ensures none { OnErr result ((self.new.waiting ≡ self.old.waiting) × (self.new.ended ≡ false)) }
+        ensures none { OnErr result ((self.new.waiting ≡ self.old.waiting)
+            × (self.new.ended ≡ false)) }
         ensures limit { self.new.taken ≤ 2 ^ 40 }
         ensures sink { self.new.sink ≡ self.old.sink }
         ensures spent { self.new.ended ≡ true → IsSpent (So.stream self.new.source) }
@@ -136,8 +141,10 @@ impl<So: Source, Si: Sink> Session<So, Si> {
     /// frame. Takes no memory.
     pub fn deliver(&mut self, reply: Reply) -> Result<(), Reply>
         requires { HasReplyFrame reply }
-        ensures ok { OnOk result (Takes (Si.held self.old.sink) (Si.held self.new.sink) (reply_frame reply)) }
-        ensures err { IfErr result (λ back. (back ≡ reply) × TakesPart (Si.held self.old.sink) (Si.held self.new.sink) (reply_frame reply)) }
+        ensures ok { OnOk result (Takes (Si.held self.old.sink) (Si.held self.new.sink)
+            (reply_frame reply)) }
+        ensures err { IfErr result (λ back. (back ≡ reply)
+            × TakesPart (Si.held self.old.sink) (Si.held self.new.sink) (reply_frame reply)) }
         ensures kept { KeepsTaken self.old self.new }
         ensures cause { HasCause (Si.faults self.old.sink) (Si.faults self.new.sink) result }
     {

@@ -65,7 +65,9 @@ impl Window {
         requires short { length self.old < 66004 }
         requires some { 0 < most }
         ensures bound { IfOk result (λ n. n ≤ most) }
-        ensures arrives { MatchResult result (λ n. Arrives (So.stream source.old) (So.stream source.new) self.old self.new 0 n) (λ _. Arrives (So.stream source.old) (So.stream source.new) self.old self.new 0 0) }
+        ensures arrives { MatchResult result
+            (λ n. Arrives (So.stream source.old) (So.stream source.new) self.old self.new 0 n)
+            (λ _. Arrives (So.stream source.old) (So.stream source.new) self.old self.new 0 0) }
         ensures end { result ≡ Ok 0 → IsSpent (So.stream source.new) }
         ensures cause { HasCause (So.faults source.old) (So.faults source.new) result }
     {
@@ -91,7 +93,8 @@ fn compact(buffer: &mut Vec<u8>, start: &mut usize, end: &mut usize)
     ensures order { start.new ≤ end.new }
     ensures within { end.new < 132008 }
     ensures size { vec_len buffer.new ≡ 132008 }
-    ensures same { drop start.new (take end.new buffer.new.items) ≡ drop start.old (take end.old buffer.old.items) }
+    ensures same { drop start.new (take end.new buffer.new.items) ≡ drop start.old
+        (take end.old buffer.old.items) }
 {
     if *start == *end || ROOM - *end < LONGEST_FRAME {
         buffer.copy_within(*start..*end, 0);

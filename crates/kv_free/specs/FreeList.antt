@@ -6,7 +6,7 @@ pub record Tail : Type 0 where
   pub kept : List ℕ
   pub count : ℕ
 
--- what is kept is the last 64 numbers of the list, or all of fewer, and their count
+-- what is kept is the last 64 numbers of the list, or all of fewer, and how many it has
 pub record StandsFor (tail : Tail) (list : List ℕ) : Type 0 where
   pub kept : tail.kept ≡ drop (length list - 64) list
   pub count : tail.count ≡ length list
@@ -15,7 +15,7 @@ pub record StandsFor (tail : Tail) (list : List ℕ) : Type 0 where
 abbrev pub last_of : List ℕ → Option ℕ
 last_of list = slice_get list (length list - 1)
 
--- what the tombstone of a slot that is appended to the list links to: the number 64 places before it, if there are so many
+-- what the tombstone of a slot that is appended links to: the number 64 places before it, if any
 abbrev pub link_of : List ℕ → Option ℕ
 link_of list = if nat_lt (length list) 64 then None else slice_get list (length list - 64)
 

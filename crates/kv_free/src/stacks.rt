@@ -22,7 +22,11 @@ impl Model for Stacks {
 
     ghost view = { λ s. record { kept = s.kept.items; count = s.count } };
 
-    ghost invariant = { λ s. record { kept : length s.kept.items ≡ min s.count 64; few : s.count ≤ 2 ^ 24; small : All (λ slot. slot < 2 ^ 24) s.kept.items } };
+    ghost invariant = { λ s. record {
+      kept : length s.kept.items ≡ min s.count 64;
+      few : s.count ≤ 2 ^ 24;
+      small : All (λ slot. slot < 2 ^ 24) s.kept.items;
+    } };
 }
 
 impl Stacks {
@@ -53,9 +57,12 @@ impl Stacks {
         requires some { 0 < self.old.count }
         requires linked { IsSome link ↔ (64 < self.old.count) }
         requires small_link { IfSome link (λ slot. slot < 2 ^ 24) }
-        ensures value { (rest : List ℕ) (slot : ℕ) → StandsFor self.old (rest ++ slot ∷ []) → result ≡ slot }
-        ensures rest { (rest : List ℕ) (slot : ℕ) → StandsFor self.old (rest ++ slot ∷ []) → StandsFor self.new (relinked rest link) }
-        ensures kept { (rest : List ℕ) (slot : ℕ) → StandsFor self.old (rest ++ slot ∷ []) → link ≡ link_of rest → StandsFor self.new rest }
+        ensures value { (rest : List ℕ) (slot : ℕ) → StandsFor self.old (rest ++ slot ∷ [])
+            → result ≡ slot }
+        ensures rest { (rest : List ℕ) (slot : ℕ) → StandsFor self.old (rest ++ slot ∷ [])
+            → StandsFor self.new (relinked rest link) }
+        ensures kept { (rest : List ℕ) (slot : ℕ) → StandsFor self.old (rest ++ slot ∷ [])
+            → link ≡ link_of rest → StandsFor self.new rest }
         ensures count { self.new.count + 1 ≡ self.old.count }
         ensures small { result < 2 ^ 24 }
     {
@@ -73,7 +80,8 @@ impl Stacks {
         requires few { self.old.count < 2 ^ 24 }
         requires small_slot { slot < 2 ^ 24 }
         ensures link { (list : List ℕ) → StandsFor self.old list → result ≡ link_of list }
-        ensures list { (list : List ℕ) → StandsFor self.old list → StandsFor self.new (list ++ slot ∷ []) }
+        ensures list { (list : List ℕ) → StandsFor self.old list
+            → StandsFor self.new (list ++ slot ∷ []) }
         ensures some { IsSome result ↔ (64 ≤ self.old.count) }
         ensures count { self.new.count ≡ self.old.count + 1 }
         ensures small { IfSome result (λ link. link < 2 ^ 24) }

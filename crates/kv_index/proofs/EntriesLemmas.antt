@@ -49,9 +49,14 @@ put_is : (q : List ℕ) (v : Entry) (es new : Pairs) → HasRisingKeys order es
     → HasRisingKeys order new × (map_of new ≡ finite.insert (map_of es) q v)
 put_is q v es new rising is =
     let sorted = yes _ rising in
-    let rises : T (is_sorted order new) = subst (λ l. T (is_sorted order l)) is (is_sorted-put order total q v es sorted) in
-    let there = ap (put order q v) (entries-from_sorted order es sorted) ∙ is in
-    (is_yes _ rises, same_entries_map _ _ (entries-from_sorted order new rises ∙ sym (entries-insert total (map_of es) q v ∙ there)))
+    let rises : T (is_sorted order new) =
+    subst (λ l. T (is_sorted order l)) is (is_sorted-put order total q v es sorted) in
+    let there = ap (put order q v) (entries-from_sorted order es sorted) ∙ is in (
+      is_yes _ rises,
+      same_entries_map _ _
+          (entries-from_sorted order new rises
+          ∙ sym (entries-insert total (map_of es) q v ∙ there)),
+    )
 
 -- a list that is what the pairs of all other keys make is the map without the key
 without_is : (q : List ℕ) (es left : Pairs) → HasRisingKeys order es
@@ -59,29 +64,39 @@ without_is : (q : List ℕ) (es left : Pairs) → HasRisingKeys order es
     → HasRisingKeys order left × (map_of left ≡ finite.remove (map_of es) q)
 without_is q es left rising is =
     let sorted = yes _ rising in
-    let rises : T (is_sorted order left) = subst (λ l. T (is_sorted order l)) is (is_sorted-where_key order (λ x. not (eq_by_cmp order q x)) es sorted) in (
+    let rises : T (is_sorted order left) =
+    subst (λ l. T (is_sorted order l)) is
+    (is_sorted-where_key order (λ x. not (eq_by_cmp order q x)) es sorted) in (
       is_yes _ rises,
       same_map total one_key _ _ (λ k.
           get-from_sorted order left k rises
           ∙ ap (find order k) (sym is)
-          ∙ find-where_key order (λ x. not (eq_by_cmp order q x)) k (λ x t. ap (λ r. not (is_eq r)) (sym (alike_right total k x q t))) es
+          ∙ find-where_key order (λ x. not (eq_by_cmp order q x)) k
+          (λ x t. ap (λ r. not (is_eq r)) (sym (alike_right total k x q t))) es
           ∙ turned (eq_by_cmp order q k) _ _
           ∙ ap (λ b. cond b None (find order k es)) ((eq_by_cmp_equiv total).symm q k)
-          ∙ sym (get-remove total (map_of es) q k ∙ ap (cond (eq_by_cmp order k q) None) (get-from_sorted order es k sorted))),
+          ∙ sym
+          (get-remove total (map_of es) q k
+          ∙ ap (cond (eq_by_cmp order k q) None) (get-from_sorted order es k sorted))),
     )
 
 pub len_is : (es : Pairs) → HasRisingKeys order es → finite.len (map_of es) ≡ length es
 len_is es rising = len-entries _ ∙ ap length (entries-from_sorted order es (yes _ rising))
 
-module _ (q : List ℕ) (es : Pairs) (i : ℕ) (rising : HasRisingKeys order es) (is : IsAt order q es i) where
+module _ (q : List ℕ) (es : Pairs) (i : ℕ) (rising : HasRisingKeys order es)
+    (is : IsAt order q es i) where
   pub get_at : (d : List ℕ × Entry) → finite.get (map_of es) q ≡ Some (get_or es i d).1
   get_at d = get-from_sorted order es q (yes _ rising) ∙ find_at total q es i is d
 
   pub set_at : (v : Entry) (x : List ℕ × Entry) → x ≡ get_or es i x
-      → HasRisingKeys order (set es i (x.0, v)) × (map_of (set es i (x.0, v)) ≡ finite.insert (map_of es) q v)
-  set_at v x here = put_is q v es _ rising (put_at total q v es i x is ∙ ap (λ pair. set es i (pair.0, v)) (sym here))
+      → HasRisingKeys order (set es i (x.0, v))
+      × (map_of (set es i (x.0, v)) ≡ finite.insert (map_of es) q v)
+  set_at v x here =
+      put_is q v es _ rising
+      (put_at total q v es i x is ∙ ap (λ pair. set es i (pair.0, v)) (sym here))
 
-  pub remove_at : HasRisingKeys order (remove es i) × (map_of (remove es i) ≡ finite.remove (map_of es) q)
+  pub remove_at : HasRisingKeys order (remove es i)
+      × (map_of (remove es i) ≡ finite.remove (map_of es) q)
   remove_at = without_is q es _ rising (without_at total q es i (yes _ rising) is)
 
   pub next_at : (x : List ℕ × Entry) → x ≡ get_or es i x → IsNext (map_of es) q x.0 x.1
@@ -89,12 +104,14 @@ module _ (q : List ℕ) (es : Pairs) (i : ℕ) (rising : HasRisingKeys order es)
       let ties = at_ties total q es i x is in
       let same : q ≡ x.0 = one_key _ _ ties ∙ sym (ap (λ pair. pair.0) here) in
       record {
-        found = ap (finite.get (map_of es)) (sym same) ∙ get_at x ∙ sym (ap (λ pair. Some pair.1) here);
+        found =
+            ap (finite.get (map_of es)) (sym same) ∙ get_at x ∙ sym (ap (λ pair. Some pair.1) here);
         from = subst (λ k. IsUpTo q k) same (ap is_le (tied_itself total q));
         least = λ other up some. subst (λ k. IsUpTo k other) same up;
       }
 
-module _ (q : List ℕ) (es : Pairs) (i : ℕ) (rising : HasRisingKeys order es) (gap : IsGap order q es i) where
+module _ (q : List ℕ) (es : Pairs) (i : ℕ) (rising : HasRisingKeys order es)
+    (gap : IsGap order q es i) where
   pub get_gap : finite.get (map_of es) q ≡ None
   get_gap = get-from_sorted order es q (yes _ rising) ∙ find_gap total q es i (yes _ rising) gap
 
@@ -111,23 +128,30 @@ module _ (q : List ℕ) (es : Pairs) (i : ℕ) (rising : HasRisingKeys order es)
       get-from_sorted order es k (yes _ rising)
       ∙ find_between total q k es i d (yes _ rising) gap (yes _ up) (λ lt. absurd (omega arith))
 
-  pub next_gap : (x : List ℕ × Entry) → x ≡ get_or es i x → i < length es → IsNext (map_of es) q x.0 x.1
+  pub next_gap : (x : List ℕ × Entry) → x ≡ get_or es i x → i < length es
+      → IsNext (map_of es) q x.0 x.1
   next_gap x here lt =
       let key : x.0 ≡ (get_or es i x).0 = ap (λ pair. pair.0) here in
-      let below : order q x.0 ≡ Less = ap (order q) key ∙ gap_below total q es i x (yes _ rising) gap lt in
-      let own : IsAt order x.0 es i = subst (λ k. IsAt order k es i) (sym key) (at_own total es i x (yes _ rising) lt) in
+      let below : order q x.0 ≡ Less =
+      ap (order q) key ∙ gap_below total q es i x (yes _ rising) gap lt in
+      let own : IsAt order x.0 es i =
+      subst (λ k. IsAt order k es i) (sym key) (at_own total es i x (yes _ rising) lt) in
       record {
         found = get_at x.0 es i rising own x ∙ sym (ap (λ pair. Some pair.1) here);
         from = ap is_le below;
-        least = λ other up some. elim (order x.0 other) as (λ r. order x.0 other ≡ r → IsTrue (is_le r)) [
-          | Less ↦ λ _. refl
-          | Equal ↦ λ _. refl
-          | Greater ↦ λ after.
-              let before : order other x.0 ≡ Less = total.antisymm other x.0 ∙ ap ordering_reverse after in
-              let none = get-from_sorted order es other (yes _ rising)
-              ∙ find_between total q other es i x (yes _ rising) gap (yes _ up) (λ _. ap (order other) (sym key) ∙ before) in
-              absurd (false≢true (subst (λ (o : Option Entry). IsSome o) none some))
-        ] refl;
+        least =
+            λ other up some. elim (order x.0 other) as
+            (λ r. order x.0 other ≡ r → IsTrue (is_le r)) [
+              | Less ↦ λ _. refl
+              | Equal ↦ λ _. refl
+              | Greater ↦ λ after.
+                  let before : order other x.0 ≡ Less =
+                  total.antisymm other x.0 ∙ ap ordering_reverse after in
+                  let none = get-from_sorted order es other (yes _ rising)
+                  ∙ find_between total q other es i x (yes _ rising) gap (yes _ up)
+                  (λ _. ap (order other) (sym key) ∙ before) in
+                  absurd (false≢true (subst (λ (o : Option Entry). IsSome o) none some))
+            ] refl;
       }
 
 -- a binary search among the pairs ends at the key's place, or at its gap

@@ -31,8 +31,13 @@ pub record Indexed : Type 0 where
 
 -- an entry is stored as its three numbers
 abbrev pub entry_code : Coded Entry
-entry_code = code_by (ℕ × (ℕ × ℕ)) (coded× coded_ℕ (coded× coded_ℕ coded_ℕ)) (λ e. (e.stamp, (e.place.class, e.place.slot))) (λ p. record { stamp = p.0; place = record { class = p.1.0; slot = p.1.1 } }) (λ _. refl)
+entry_code =
+    code_by (ℕ × (ℕ × ℕ)) (coded× coded_ℕ (coded× coded_ℕ coded_ℕ))
+    (λ e. (e.stamp, (e.place.class, e.place.slot)))
+    (λ p. record { stamp = p.0; place = record { class = p.1.0; slot = p.1.1 } }) (λ _. refl)
 
 -- an index is stored as its map and its number
 abbrev pub indexed_code : Coded Indexed
-indexed_code = code_by (Entries × ℕ) (coded× (code (coded_list coded_ℕ) entry_code) coded_ℕ) (λ i. (i.entries, i.spare)) (λ p. record { entries = p.0; spare = p.1 }) (λ _. refl)
+indexed_code =
+    code_by (Entries × ℕ) (coded× (code (coded_list coded_ℕ) entry_code) coded_ℕ)
+    (λ i. (i.entries, i.spare)) (λ p. record { entries = p.0; spare = p.1 }) (λ _. refl)

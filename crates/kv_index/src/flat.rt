@@ -19,7 +19,7 @@ pub struct FlatIndex {
 }
 
 impl Model for FlatIndex {
-    ghost use Rattle.std.specs.Prelude.{◌+◌, ◌-◌, ◌^◌, ◌<◌, ◌≤◌, vec_len, vec_capacity};
+    ghost use Rattle.std.specs.Prelude.{◌+◌, ◌^◌, ◌<◌, ◌≤◌, vec_len, vec_capacity};
     ghost use Rattle.std.specs.FinMap.{from_sorted};
     ghost use Rattle.std.specs.Ordering.{nat_cmp};
     ghost use Rattle.std.specs.Cmp.Lexicographic.{slice_cmp};
@@ -32,7 +32,11 @@ impl Model for FlatIndex {
 
     ghost view = { λ s. record { entries = from_sorted s.pairs.items; spare = s.spare } };
 
-    ghost invariant = { λ s. record { rising : HasRisingKeys (slice_cmp nat_cmp) s.pairs.items; room : vec_len s.pairs + s.spare ≤ vec_capacity s.pairs; few : vec_len s.pairs < 2 ^ 32 } };
+    ghost invariant = { λ s. record {
+      rising : HasRisingKeys (slice_cmp nat_cmp) s.pairs.items;
+      room : vec_len s.pairs + s.spare ≤ vec_capacity s.pairs;
+      few : vec_len s.pairs < 2 ^ 32;
+    } };
 }
 
 impl FlatIndex {

@@ -1,4 +1,4 @@
-ghost use Rattle.std.specs.Prelude.{◌≡◌, ℕ, ◌+◌, ◌-◌, ◌^◌, ◌<◌, ◌≤◌, None, OnOk, IfNone, MatchOption, if◌then◌else◌};
+ghost use Rattle.std.specs.Prelude.{◌≡◌, ℕ, ◌-◌, ◌^◌, ◌<◌, ◌≤◌, OnOk, IfNone, MatchOption, if◌then◌else◌};
 ghost use Rattle.std.specs.FinMap as finite;
 ghost use Rattle.kv_index.specs.Entries.{Entries, HasNoneFrom, IsNext};
 
@@ -29,9 +29,11 @@ pub trait Index {
         requires room { IfNone (finite.get (entries self.old) key) (0 < spare self.old) }
         requires few { IfNone (finite.get (entries self.old) key) (finite.len (entries self.old) < 2 ^ 32 - 1) }
         ensures value { entries self.new ≡ finite.insert (entries self.old) key entry }
-        ensures spare { spare self.new ≡ (if finite.contains_key (entries self.old) key then spare self.old else spare self.old - 1) };
+        ensures spare { spare self.new
+            ≡ (if finite.contains_key (entries self.old) key then spare self.old else spare self.old - 1) };
 
-    /// Takes the key out, and answers its entry. `None` exactly where there was none. Takes no memory.
+    /// Takes the key out, and answers its entry. `None` exactly where there was none. Takes no
+    /// memory.
     fn remove(&mut self, key: &[u8]) -> Option<Entry>
         ensures value { result ≡ finite.get (entries self.old) key.now }
         ensures rest { entries self.new ≡ finite.remove (entries self.old) key.now }
@@ -40,7 +42,8 @@ pub trait Index {
     /// The least key at or after this one, and its entry. `None` exactly where there is none. What it
     /// lends lives as long as the index stays as it is.
     fn next_at_or_after(&self, key: &[u8]) -> Option<(&[u8], Entry)>
-        ensures next { MatchOption result (HasNoneFrom (entries self.now) key.now) (λ next. IsNext (entries self.now) key.now next.0.now next.1) };
+        ensures next { MatchOption result (HasNoneFrom (entries self.now) key.now)
+            (λ next. IsNext (entries self.now) key.now next.0.now next.1) };
 
     /// The number of keys.
     fn len(&self) -> u32

@@ -1,4 +1,4 @@
-//! A finite map from keys to the places of their items: what an index promises, and a sorted vector that keeps it.
+//! A finite map from keys to the places of their items, and a sorted vector that keeps one.
 #![tactic(auto)]
 
 mod entry;

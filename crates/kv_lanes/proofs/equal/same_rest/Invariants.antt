@@ -1,5 +1,5 @@
 -- a lane is 0 where the bytes under it were the same in each block so far
-use Rattle.std.proofs.Common.{◌≡◌, ℕ, ◌-◌, ◌≤◌, eqb, length, take, bit_xor}
+use Rattle.std.proofs.Common.{◌≡◌, ◌-◌, ◌≤◌, eqb, length, take, bit_xor}
 use Rattle.std.specs.List.{list_all}
 use Rattle.std.specs.Simd.Lanes.{zip2}
 use Rattle.kv_lanes.proofs.equal.same_rest.Given as goal

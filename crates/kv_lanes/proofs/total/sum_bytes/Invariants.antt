@@ -1,5 +1,5 @@
 -- what was added and what is left are all bytes
-use Rattle.std.proofs.Common.{◌≡◌, ℕ, ◌+◌, ◌≤◌, length, sum}
+use Rattle.std.proofs.Common.{◌≡◌, ◌+◌, length, sum}
 use Rattle.kv_lanes.proofs.total.sum_bytes.Given as goal
 
 abbrev pub invariant-loop-rest : goal.invariant-loop-rest

@@ -1,5 +1,5 @@
 -- the lanes add up to the bytes of the blocks so far
-use Rattle.std.proofs.Common.{◌≡◌, ℕ, ◌+◌, ◌-◌, ◌≤◌, length, take, drop, sum}
+use Rattle.std.proofs.Common.{◌≡◌, ◌-◌, ◌≤◌, length, take, sum}
 use Rattle.std.specs.Simd.Lanes.{sum_l}
 use Rattle.kv_lanes.proofs.total.sum_of_span.Given as goal
 

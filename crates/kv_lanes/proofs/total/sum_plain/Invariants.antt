@@ -1,5 +1,5 @@
 -- the sum of the bytes so far
-use Rattle.std.proofs.Common.{◌≡◌, ℕ, ◌*◌, ◌≤◌, sum, take}
+use Rattle.std.proofs.Common.{◌≡◌, ◌*◌, ◌≤◌, sum, take}
 use Rattle.kv_lanes.proofs.total.sum_plain.Given as goal
 
 abbrev pub invariant-loop-byte : goal.invariant-loop-byte

@@ -1,5 +1,5 @@
 -- a lane is 0 where it was 0 in each block so far
-use Rattle.std.proofs.Common.{◌≡◌, ℕ, ◌-◌, ◌≤◌, eqb, length, take}
+use Rattle.std.proofs.Common.{◌≡◌, ◌-◌, ◌≤◌, eqb, length, take}
 use Rattle.std.specs.List.{list_all}
 use Rattle.kv_lanes.proofs.zero.is_zero_rest.Given as goal
 

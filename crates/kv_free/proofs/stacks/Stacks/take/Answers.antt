@@ -8,4 +8,5 @@ returns-clause-rest c = grind (arith, common_steps)
 
 -- the link that the tombstone has is the number that stands there
 pub returns-clause-kept : goal.returns-clause-kept
-returns-clause-kept c rest slot stands same = stands_for_rest rest c.args.link same (returns-clause-rest c rest slot stands)
+returns-clause-kept c rest slot stands same =
+    stands_for_rest rest c.args.link same (returns-clause-rest c rest slot stands)

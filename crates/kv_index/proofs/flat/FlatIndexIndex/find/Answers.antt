@@ -12,4 +12,9 @@ returns-in-Ok c =
 -- no pair has the key
 pub returns-in-Err : goal.returns-in-Err
 returns-in-Err c =
-    rw (← c.self.view_is) (record { value = sym (get_gap _ _ _ c.self.invariant.rising (rw c.deref.ensures.value at c.in-Err.ensures.absent)) })
+    rw (← c.self.view_is)
+    (record {
+      value = sym
+          (get_gap _ _ _ c.self.invariant.rising
+          (rw c.deref.ensures.value at c.in-Err.ensures.absent));
+    })

@@ -12,10 +12,15 @@ returns-then-at-len c =
     elim c.match-place_of.branch [
       | in-Ok w ↦
           let at = rw (c.deref.ensures.value, ← w.at-is) at w.in-Ok.ensures.found in
-          rw (c.as_slice.ensures, ← c.self.view_is) (record { next = next_at _ _ _ rising at _ c.index-pair.ensures })
+          rw (c.as_slice.ensures, ← c.self.view_is)
+          (record { next = next_at _ _ _ rising at _ c.index-pair.ensures })
       | in-Err w ↦
           let gap = rw (c.deref.ensures.value, ← w.at-is) at w.in-Err.ensures.absent in
-          rw (c.as_slice.ensures, ← c.self.view_is) (record { next = next_gap _ _ _ rising gap _ c.index-pair.ensures (omega (arith, c.self.inside.pairs.ok.0)) })
+          rw (c.as_slice.ensures, ← c.self.view_is)
+          (record {
+            next = next_gap _ _ _ rising gap _ c.index-pair.ensures
+                (omega (arith, c.self.inside.pairs.ok.0));
+          })
     ]
 
 -- the gap is behind the last pair
@@ -30,5 +35,9 @@ returns-else-at-len c =
           absurd (omega (arith, c.self.inside.pairs.ok.0))
       | in-Err w ↦
           let gap = rw (c.deref.ensures.value, ← w.at-is) at w.in-Err.ensures.absent in
-          rw (← c.self.view_is) (record { next = none_from _ _ _ rising gap (omega (arith, c.self.inside.pairs.ok.0)) })
+          rw (← c.self.view_is)
+          (record {
+            next = none_from _ _ _ rising gap
+                (omega (arith, c.self.inside.pairs.ok.0));
+          })
     ]

@@ -25,9 +25,13 @@ returns-in-Ok-clause-spare c =
 pub insert_within-requires : goal.insert_within-requires
 insert_within-requires c =
     let gap = rw (c.deref.ensures.value, c.as_slice.ensures) at c.in-Err.ensures.absent in
-    let room = rw (← c.self.view_is, get_gap _ _ _ c.self.invariant.rising gap) at c.requires.room in
+    let room =
+    rw (← c.self.view_is, get_gap _ _ _ c.self.invariant.rising gap) at c.requires.room in
     let within = gap-le total _ _ _ gap in
-    record { bounds = omega (arith, c.self.inside.pairs.ok.0); room = omega (arith, c.self.invariant.room) }
+    record {
+      bounds = omega (arith, c.self.inside.pairs.ok.0);
+      room = omega (arith, c.self.invariant.room);
+    }
 
 pub overflow_sub-self : goal.overflow_sub-self
 overflow_sub-self c =
@@ -37,10 +41,15 @@ overflow_sub-self c =
 pub invariant_of-self-in-Err : goal.invariant_of-self-in-Err
 invariant_of-self-in-Err c =
     let gap = rw (c.deref.ensures.value, c.as_slice.ensures) at c.in-Err.ensures.absent in
-    let some = rw (← c.self.view_is, get_gap _ _ _ c.self.invariant.rising gap) at c.requires.room in
-    let few = rw (← c.self.view_is, get_gap _ _ _ c.self.invariant.rising gap, len_is _ c.self.invariant.rising) at c.requires.few in
+    let some =
+    rw (← c.self.view_is, get_gap _ _ _ c.self.invariant.rising gap) at c.requires.room in
+    let few =
+    rw
+    (← c.self.view_is, get_gap _ _ _ c.self.invariant.rising gap, len_is _ c.self.invariant.rising) at c.requires.few in
     record {
-      rising = rw c.insert_within.ensures.items (insert_gap _ _ _ c.self.invariant.rising gap c.args.entry).0;
+      rising =
+          rw c.insert_within.ensures.items
+          (insert_gap _ _ _ c.self.invariant.rising gap c.args.entry).0;
       room = omega (arith, c.self.invariant.room);
       few = omega (arith, c.self.inside.pairs.ok.0);
     }
@@ -48,7 +57,8 @@ invariant_of-self-in-Err c =
 pub returns-in-Err-clause-value : goal.returns-in-Err-clause-value
 returns-in-Err-clause-value c =
     let gap = rw (c.deref.ensures.value, c.as_slice.ensures) at c.in-Err.ensures.absent in
-    rw (c.insert_within.ensures.items, ← c.self.view_is) (insert_gap _ _ _ c.self.invariant.rising gap c.args.entry).1
+    rw (c.insert_within.ensures.items, ← c.self.view_is)
+    (insert_gap _ _ _ c.self.invariant.rising gap c.args.entry).1
 
 pub returns-in-Err-clause-spare : goal.returns-in-Err-clause-spare
 returns-in-Err-clause-spare c =

@@ -8,7 +8,8 @@ abbrev pub invariant-loop-at : goal.invariant-loop-at
 invariant-loop-at l = record {
   within : l.at ≤ length l.a;
   lanes : length l.apart ≡ 64;
-  zero : list_all (λ byte. eqb byte 0) l.apart ≡ list_all (λ byte. eqb byte 0) (take l.at (zip2 bit_xor l.a l.b));
+  zero : list_all (λ byte. eqb byte 0) l.apart ≡ list_all (λ byte. eqb byte 0)
+      (take l.at (zip2 bit_xor l.a l.b));
 }
 
 abbrev pub decreases-loop-at : goal.decreases-loop-at

@@ -8,7 +8,10 @@ overflow_add-total c =
     let all = sum_le c.args.bytes.now (λ k. omega (arith, c.type_inv.bytes k)) in
     let front = ap sum c.split_at.ensures.front in
     let part = sum_front c.loop-rest.rest.now 65536 in
-    record { fits = omega (arith, c.loop-rest.invariant, c.sum_of_span.ensures, c.from-total.ensures) }
+    record {
+      fits = omega
+          (arith, c.loop-rest.invariant, c.sum_of_span.ensures, c.from-total.ensures);
+    }
 
 pub overflow_add-result : goal.overflow_add-result
 overflow_add-result c =

@@ -1,3 +1,5 @@
 pub mod FramingLemmas
 pub mod CodeLemmas
 pub mod RequestLemmas
+pub mod ReplyLemmas
+pub mod StreamLemmas

@@ -9,7 +9,7 @@ use Rattle.kv_frames.specs.Cut.{BeginsWithContent, IsOutOfRange}
 use Rattle.kv_frames.specs.Reading.{put_in, put_body_in, request_in}
 use Rattle.kv_frames.specs.Parse.{IsWhole}
 use Rattle.kv_frames.proofs.FramingLemmas.{IsBytes, stated_length-framed, content_within}
-use Rattle.kv_frames.proofs.CodeLemmas.{IsCode, Begins, chosen, begins_read, read_found, out_of_range_begins_none, partial_begins_none}
+use Rattle.kv_frames.proofs.CodeLemmas.{IsCode, Begins, chosen, begins_read, read_found, begins_once, out_of_range_begins_none, partial_begins_none}
 
 -- what a request's content is read as
 request_again : (request : Request) → HasRequestBody request → request_in (request_content request) ≡ Some request
@@ -52,18 +52,20 @@ request_back (kind ∷ body) request fits e =
     ]
 
 -- a request's content has its kind at least
-request_some : (request : Request) → 1 ≤ length (request_content request)
+pub request_some : (request : Request) → 1 ≤ length (request_content request)
 request_some (Put key value) = omega arith
 request_some (Get key) = omega arith
 
 -- requests' contents are written and read
-pub request_code : IsCode Request request_content HasRequestBody request_in
+request_code : IsCode Request request_content HasRequestBody request_in
 request_code = record { again = request_again; back = request_back; some = request_some }
 
--- the same said of requests alone
-pub request_begins : (bytes : List ℕ) (request : Request) (rest : List ℕ) → BeginsWithRequest bytes request rest → Begins Request request_content HasRequestBody bytes request rest
+-- ---- what parsing answers
+
+request_begins : (bytes : List ℕ) (request : Request) (rest : List ℕ) → BeginsWithRequest bytes request rest → Begins Request request_content HasRequestBody bytes request rest
 request_begins bytes request rest p = record { body = p.has.body; size = p.has.size; parts = p.parts }
 
+-- a content that is read is a whole request
 pub request_is_whole : (bytes content : List ℕ) (request : Request) → IsBytes bytes → BeginsWithContent bytes content → Some request ≡ request_in content → IsWhole bytes request (4 + length content)
 request_is_whole bytes content request fits begins is =
     let read = begins_read Request request_content HasRequestBody request_in request_code bytes content request fits begins is in
@@ -75,6 +77,7 @@ request_is_whole bytes content request fits begins is =
       within = content_within bytes content begins;
     }
 
+-- no other request begins the bytes
 pub request_is_found : (bytes content : List ℕ) (found request : Request) (rest : List ℕ) → BeginsWithContent bytes content → Some found ≡ request_in content → BeginsWithRequest bytes request rest → (found ≡ request) × (4 + length content ≡ length (request_frame request))
 request_is_found bytes content found request rest begins is p =
     let read = read_found Request request_content HasRequestBody request_in request_code bytes content request rest begins (request_begins bytes request rest p) in
@@ -95,10 +98,21 @@ request_is_malformed bytes content begins is =
         absurd cc;
     }
 
-pub request_out_of_range : (bytes : List ℕ) → IsOutOfRange bytes → BeginsWithNoRequest bytes
-request_out_of_range bytes out request rest p =
-    out_of_range_begins_none Request request_content HasRequestBody request_in request_code bytes request rest out (request_begins bytes request rest p)
+-- a length out of range makes the bytes malformed
+pub request_out_is_malformed : (bytes : List ℕ) → IsOutOfRange bytes → IsMalformed bytes
+request_out_is_malformed bytes out =
+    record {
+      length_there = out.length_there;
+      all_there = λ some most. absurd (omega (arith, out.out some));
+      none = λ request rest p. out_of_range_begins_none Request request_content HasRequestBody request_in request_code bytes request rest out (request_begins bytes request rest p);
+    }
 
+-- no request begins a part of a frame
 pub request_partial : (bytes : List ℕ) → IsPartial bytes → BeginsWithNoRequest bytes
 request_partial bytes partial request rest p =
     partial_begins_none Request request_content HasRequestBody bytes request rest partial (request_begins bytes request rest p)
+
+-- requests whose frames begin the same bytes are one
+pub request_once : (bytes : List ℕ) (request other : Request) (rest behind : List ℕ) → BeginsWithRequest bytes request rest → BeginsWithRequest bytes other behind → (request ≡ other) × (rest ≡ behind)
+request_once bytes request other rest behind p q =
+    begins_once Request request_content HasRequestBody request_in request_code bytes request other rest behind (request_begins bytes request rest p) (request_begins bytes other behind q)

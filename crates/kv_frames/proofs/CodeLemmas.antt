@@ -27,12 +27,14 @@ begins_once V content Has read code bytes v w x y p q =
 -- a content that is read is the content of the value, and its frame begins the bytes
 pub begins_read : (V : Type 0) (content : V → List ℕ) (Has : V → Type 0) (read : List ℕ → Option V) (code : IsCode V content Has read) (bytes front : List ℕ) (v : V) → IsBytes bytes → BeginsWithContent bytes front → Some v ≡ read front → Begins V content Has bytes v (drop (4 + length front) bytes) × (content v ≡ front)
 begins_read V content Has read code bytes front v fits begins is =
-    let back = code.back front v (IsBytes-content bytes front fits begins) (sym is) in
-    (record {
-      body = back.0;
-      size = rw back.1 begins.most;
-      parts = rw back.1 begins.parts;
-    }, back.1)
+    let back = code.back front v (IsBytes-content bytes front fits begins) (sym is) in (
+      record {
+        body = back.0;
+        size = rw back.1 begins.most;
+        parts = rw back.1 begins.parts;
+      },
+      back.1,
+    )
 
 -- a frame that begins the bytes has the content that is there
 pub content_once : (V : Type 0) (content : V → List ℕ) (Has : V → Type 0) (bytes front : List ℕ) (v : V) (rest : List ℕ) → BeginsWithContent bytes front → Begins V content Has bytes v rest → front ≡ content v

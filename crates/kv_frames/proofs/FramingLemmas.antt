@@ -26,9 +26,10 @@ pub framed_once : (a b x y : List ℕ) → length a < 2 ^ 32 → length b < 2 ^ 
 framed_once a b x y a_fits b_fits e =
     let stated : from_le_bytes w32 (to_le_bytes w32 (length a)) ≡ from_le_bytes w32 (to_le_bytes w32 (length b)) = ap (λ (bytes : List ℕ). from_le_bytes w32 (take 4 bytes)) e in
     let same : length a ≡ length b = sym (from_le_bytes-to_le_bytes_4 (length a) a_fits) ∙ stated ∙ from_le_bytes-to_le_bytes_4 (length b) b_fits in
-    let behind : a ++ x ≡ b ++ y = ap (λ (bytes : List ℕ). drop 4 bytes) e in
-    (sym (take_at a x (length a) refl) ∙ ap (λ (bytes : List ℕ). take (length a) bytes) behind ∙ take_at b y (length a) (sym same),
-    sym (drop_at a x (length a) refl) ∙ ap (λ (bytes : List ℕ). drop (length a) bytes) behind ∙ drop_at b y (length a) (sym same))
+    let behind : a ++ x ≡ b ++ y = ap (λ (bytes : List ℕ). drop 4 bytes) e in (
+      sym (take_at a x (length a) refl) ∙ ap (λ (bytes : List ℕ). take (length a) bytes) behind ∙ take_at b y (length a) (sym same),
+      sym (drop_at a x (length a) refl) ∙ ap (λ (bytes : List ℕ). drop (length a) bytes) behind ∙ drop_at b y (length a) (sym same),
+    )
 
 -- a frame states the length of its content
 pub stated_length-framed : (content rest bytes : List ℕ) → length content < 2 ^ 32 → bytes ≡ framed content ++ rest → stated_length bytes ≡ length content
@@ -42,7 +43,7 @@ content_here bytes n fits is some most long =
     let front : to_le_bytes w32 n ≡ take 4 bytes = le_bytes_4 (take 4 bytes) n (length-take-le 4 bytes (omega arith)) (IsBytes-take 4 bytes fits) is in
     let behind : drop 4 bytes ≡ take n (drop 4 bytes) ++ drop (4 + n) bytes = sym (take-append-drop n (drop 4 bytes)) ∙ ap (λ (rest : List ℕ). take n (drop 4 bytes) ++ rest) (drop-drop n 4 bytes) in
     let whole : bytes ≡ to_le_bytes w32 n ++ (take n (drop 4 bytes) ++ drop (4 + n) bytes) =
-        sym (take-append-drop 4 bytes) ∙ ap (λ (four : List ℕ). four ++ drop 4 bytes) (sym front) ∙ ap (λ (rest : List ℕ). to_le_bytes w32 n ++ rest) behind in
+    sym (take-append-drop 4 bytes) ∙ ap (λ (four : List ℕ). four ++ drop 4 bytes) (sym front) ∙ ap (λ (rest : List ℕ). to_le_bytes w32 n ++ rest) behind in
     record {
       some = omega arith;
       most = omega arith;
@@ -53,7 +54,7 @@ content_here bytes n fits is some most long =
 pub IsBytes-content : (bytes content : List ℕ) → IsBytes bytes → BeginsWithContent bytes content → IsBytes content
 IsBytes-content bytes content fits begins =
     let is : take (length content) (drop 4 bytes) ≡ content =
-        ap (λ (b : List ℕ). take (length content) (drop 4 b)) begins.parts ∙ take_at content (drop (4 + length content) bytes) (length content) refl in
+    ap (λ (b : List ℕ). take (length content) (drop 4 b)) begins.parts ∙ take_at content (drop (4 + length content) bytes) (length content) refl in
     subst (λ (b : List ℕ). IsBytes b) is (IsBytes-take (length content) (drop 4 bytes) (IsBytes-drop 4 bytes fits))
 
 -- the content is all there

@@ -3,3 +3,4 @@ pub mod CodeLemmas
 pub mod RequestLemmas
 pub mod ReplyLemmas
 pub mod StreamLemmas
+pub mod TranscriptLemmas

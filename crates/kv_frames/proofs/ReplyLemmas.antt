@@ -44,8 +44,8 @@ one_kind : (kind number : ℕ) (body : List ℕ) (value reply : Reply) (other : 
 one_kind kind number body value reply other has is others e =
     elim (chosen (eqb kind number) (Some value) other (Some reply) e) [
       | inl p ↦
-        let value_is : value ≡ reply = cc in
-        subst (λ (r : Reply). IsReplyOf kind body r) value_is (has, is ∙ ap (λ (k : ℕ). k ∷ body) (sym (eqb-true kind number p.0)))
+          let value_is : value ≡ reply = cc in
+          subst (λ (r : Reply). IsReplyOf kind body r) value_is (has, is ∙ ap (λ (k : ℕ). k ∷ body) (sym (eqb-true kind number p.0)))
       | inr p ↦ others p.1
     ]
 
@@ -76,8 +76,8 @@ number_back body f reply e =
     elim (cases_Bool (eqb (length body) 8)) [
       | inl eight ↦ (eqb-true _ _ eight, rw eight at e)
       | inr other ↦
-        let none = rw other at e in
-        absurd cc
+          let none = rw other at e in
+          absurd cc
     ]
 
 plain_back : (kind : ℕ) (body : List ℕ) (reply : Reply) → IsBytes body → plain_in kind body ≡ Some reply → IsReplyOf kind body reply
@@ -92,12 +92,13 @@ found_back : (body : List ℕ) (reply : Reply) → IsBytes body → found_in bod
 found_back body reply fits e =
     elim (chosen (leb 8 (length body)) (Some (Found (from_le_bytes w64 (take 8 body)) (drop 8 body))) None (Some reply) e) [
       | inl p ↦
-        let is : Found (from_le_bytes w64 (take 8 body)) (drop 8 body) ≡ reply = cc in
-        let front_fits : IsBytes (take 8 body) = IsBytes-take 8 body fits in
-        let front : to_le_bytes w64 (from_le_bytes w64 (take 8 body)) ≡ take 8 body = le_bytes_8 (take 8 body) _ (length-take-le 8 body (leb-true _ _ p.0)) front_fits refl in
-        subst (λ (r : Reply). IsReplyOf 0x82 body r) is
-        (from_le_bytes_8-fits (take 8 body) front_fits,
-        ap (λ (b : List ℕ). 0x82 ∷ (b ++ drop 8 body)) front ∙ ap (λ (b : List ℕ). 0x82 ∷ b) (take-append-drop 8 body))
+          let is : Found (from_le_bytes w64 (take 8 body)) (drop 8 body) ≡ reply = cc in
+          let front_fits : IsBytes (take 8 body) = IsBytes-take 8 body fits in
+          let front : to_le_bytes w64 (from_le_bytes w64 (take 8 body)) ≡ take 8 body = le_bytes_8 (take 8 body) _ (length-take-le 8 body (leb-true _ _ p.0)) front_fits refl in
+          subst (λ (r : Reply). IsReplyOf 0x82 body r) is (
+            from_le_bytes_8-fits (take 8 body) front_fits,
+            ap (λ (b : List ℕ). 0x82 ∷ (b ++ drop 8 body)) front ∙ ap (λ (b : List ℕ). 0x82 ∷ b) (take-append-drop 8 body),
+          )
       | inr p ↦ absurd cc
     ]
 
@@ -162,9 +163,9 @@ reply_is_malformed bytes content begins is =
       length_there = omega arith;
       all_there = λ some most. omega (arith, within, stated);
       none = λ reply rest p.
-        let read = read_found Reply reply_content HasReplyBody reply_in reply_code bytes content reply rest begins (reply_begins bytes reply rest p) in
-        let both : None ≡ Some reply = is ∙ read.0 in
-        absurd cc;
+          let read = read_found Reply reply_content HasReplyBody reply_in reply_code bytes content reply rest begins (reply_begins bytes reply rest p) in
+          let both : None ≡ Some reply = is ∙ read.0 in
+          absurd cc;
     }
 
 -- a length out of range makes the bytes malformed

@@ -24,11 +24,11 @@ put_back [] request fits e = absurd cc
 put_back (key_length ∷ rest) request fits e =
     elim (chosen (leb key_length (length rest)) (Some (Put (take key_length rest) (drop key_length rest))) None (Some request) e) [
       | inl p ↦
-        let is : Put (take key_length rest) (drop key_length rest) ≡ request = cc in
-        let size : length (take key_length rest) ≡ key_length = length-take-le key_length rest (leb-true _ _ p.0) in
-        let key_fits : key_length < 256 = fits 1 in
-        subst (λ (r : Request). HasRequestBody r × (request_content r ≡ 1 ∷ key_length ∷ rest)) is
-        (omega arith, rw (size, take-append-drop key_length rest) refl)
+          let is : Put (take key_length rest) (drop key_length rest) ≡ request = cc in
+          let size : length (take key_length rest) ≡ key_length = length-take-le key_length rest (leb-true _ _ p.0) in
+          let key_fits : key_length < 256 = fits 1 in
+          subst (λ (r : Request). HasRequestBody r × (request_content r ≡ 1 ∷ key_length ∷ rest)) is
+          (omega arith, rw (size, take-append-drop key_length rest) refl)
       | inr p ↦ absurd cc
     ]
 
@@ -38,17 +38,17 @@ request_back [] request fits e = absurd cc
 request_back (kind ∷ body) request fits e =
     elim (chosen (eqb kind 1) (put_body_in body) (cond (eqb kind 2) (Some (Get body)) None) (Some request) e) [
       | inl p ↦
-        let is : kind ≡ 1 = eqb-true kind 1 p.0 in
-        let fits' : IsBytes (1 ∷ body) = subst (λ (k : ℕ). IsBytes (k ∷ body)) is fits in
-        rw is (put_back body request fits' p.1)
+          let is : kind ≡ 1 = eqb-true kind 1 p.0 in
+          let fits' : IsBytes (1 ∷ body) = subst (λ (k : ℕ). IsBytes (k ∷ body)) is fits in
+          rw is (put_back body request fits' p.1)
       | inr p ↦
-        elim (chosen (eqb kind 2) (Some (Get body)) None (Some request) p.1) [
-          | inl q ↦
-            let is : Get body ≡ request = cc in
-            let kind_is : kind ≡ 2 = eqb-true kind 2 q.0 in
-            subst (λ (r : Request). HasRequestBody r × (request_content r ≡ kind ∷ body)) is (rw kind_is (tt, refl))
-          | inr q ↦ absurd cc
-        ]
+          elim (chosen (eqb kind 2) (Some (Get body)) None (Some request) p.1) [
+            | inl q ↦
+                let is : Get body ≡ request = cc in
+                let kind_is : kind ≡ 2 = eqb-true kind 2 q.0 in
+                subst (λ (r : Request). HasRequestBody r × (request_content r ≡ kind ∷ body)) is (rw kind_is (tt, refl))
+            | inr q ↦ absurd cc
+          ]
     ]
 
 -- a request's content has its kind at least
@@ -93,9 +93,9 @@ request_is_malformed bytes content begins is =
       length_there = omega arith;
       all_there = λ some most. omega (arith, within, stated);
       none = λ request rest p.
-        let read = read_found Request request_content HasRequestBody request_in request_code bytes content request rest begins (request_begins bytes request rest p) in
-        let both : None ≡ Some request = is ∙ read.0 in
-        absurd cc;
+          let read = read_found Request request_content HasRequestBody request_in request_code bytes content request rest begins (request_begins bytes request rest p) in
+          let both : None ≡ Some request = is ∙ read.0 in
+          absurd cc;
     }
 
 -- a length out of range makes the bytes malformed

@@ -1,10 +1,12 @@
 -- Laws of frames: what the definitions determine, whatever code reads and writes them.
-use Rattle.std.specs.Prelude.{◌≡◌, ℕ, List, [], ◌∷◌, ◌++◌}
-use Rattle.std.specs.List.{AllByRecursion}
+use Rattle.std.specs.Prelude.{◌≡◌, ℕ, Bool, List, [], ◌∷◌, ◌++◌}
+use Rattle.std.specs.List.{AllByRecursion, flat_map}
 use Rattle.kv_base.specs.declared.request.Request.{Request}
 use Rattle.kv_base.specs.declared.reply.Reply.{Reply}
 use Rattle.kv_model.specs.Frames.{BeginsWithRequest, BeginsWithNoRequest, BeginsWithReply, BeginsWithNoReply, BeginsWithRequests, SplitsInto, HasRequestFrame, HasReplyFrame, request_frame, reply_frame, IsPartial, IsMalformed}
-use Rattle.kv_model.specs.Transcript.{GoesOut}
+use Rattle.kv_base.specs.declared.cause.Cause.{Cause}
+use Rattle.kv_model.specs.Transcript.{GoesOut, HasTranscript}
+use Rattle.kv_frames.specs.Pieces.{ReadInPieces}
 
 -- requests whose frames begin the same bytes are one, and leave one rest
 abbrev pub OneRequest : Type 0
@@ -44,3 +46,20 @@ NextPiece = (bytes : List ℕ) (requests : List Request) (rest piece : List ℕ)
 -- what went out and what is left are those of one list of replies
 abbrev pub OneOutcome : Type 0
 OneOutcome = (replies others : List Reply) (given : List ℕ) (left : List Reply) → AllByRecursion HasReplyFrame replies → AllByRecursion HasReplyFrame others → GoesOut replies given left → GoesOut others given left → replies ≡ others
+
+-- a stream is the same requests and the same rest, in whatever pieces it came
+abbrev pub OneReading : Type 0
+OneReading =
+    (pieces others : List (List ℕ)) (requests alike : List Request) (rest behind : List ℕ)
+    → flat_map (λ piece. piece) pieces ≡ flat_map (λ piece. piece) others
+    → ReadInPieces pieces [] requests rest → ReadInPieces others [] alike behind
+    → (requests ≡ alike) × (rest ≡ behind)
+
+-- what a session took and gave, what is left and why it ended are those of one list of requests and one of replies
+abbrev pub OneTranscript : Type 0
+OneTranscript =
+    (taken : List ℕ) (ended : Bool) (given : List ℕ) (left : List Reply) (cause : Cause)
+    (handled others : List Request) (replies answers : List Reply)
+    → HasTranscript taken ended given left cause handled replies
+    → HasTranscript taken ended given left cause others answers
+    → (handled ≡ others) × (replies ≡ answers)

@@ -25,7 +25,12 @@ pub fn put_reply(reply: &Reply, out: &mut Vec<u8>) -> Result<(), NoMemory>
         Reply::DiskFault => put_frame(&[kind::DISK_FAULT], &[], &[], out),
         Reply::Unsure { stamp } => put_frame(&[kind::UNSURE], &stamp.to_le_bytes(), &[], out),
         Reply::Closed => put_frame(&[kind::CLOSED], &[], &[], out),
-        Reply::Malformed { offset } => put_frame(&[kind::MALFORMED], &offset.to_le_bytes(), &[], out),
+        Reply::Malformed { offset } => put_frame(
+            &[kind::MALFORMED],
+            &offset.to_le_bytes(),
+            &[],
+            out,
+        ),
     }
 }
 
@@ -38,7 +43,12 @@ pub fn put_request(request: &Request, out: &mut Vec<u8>) -> Result<(), NoMemory>
 {
     match request {
         Request::Put { key, value } => {
-            put_frame(&[kind::PUT, key.len() as u8], key.as_slice(), value.as_slice(), out)
+            put_frame(
+                &[kind::PUT, key.len() as u8],
+                key.as_slice(),
+                value.as_slice(),
+                out,
+            )
         }
         Request::Get { key } => put_frame(&[kind::GET], &[], key.as_slice(), out),
     }

@@ -12,20 +12,25 @@ use Rattle.kv_frames.proofs.FramingLemmas.{IsBytes, stated_length-framed, conten
 use Rattle.kv_frames.proofs.CodeLemmas.{IsCode, Begins, chosen, begins_read, read_found, begins_once, out_of_range_begins_none, partial_begins_none}
 
 -- what a request's content is read as
-request_again : (request : Request) → HasRequestBody request → request_in (request_content request) ≡ Some request
+request_again : (request : Request) → HasRequestBody request
+    → request_in (request_content request) ≡ Some request
 request_again (Put key value) fits =
-    let long : leb (length key) (length (key ++ value)) ≡ true = le-leb _ _ (omega (arith, length-append key value)) in
+    let long : leb (length key) (length (key ++ value)) ≡ true =
+    le-leb _ _ (omega (arith, length-append key value)) in
     rw (long, take_at key value (length key) refl, drop_at key value (length key) refl) refl
 request_again (Get key) fits = refl
 
 -- what is read as a Put's body is its body
-put_back : (body : List ℕ) (request : Request) → IsBytes (1 ∷ body) → put_body_in body ≡ Some request → HasRequestBody request × (request_content request ≡ 1 ∷ body)
+put_back : (body : List ℕ) (request : Request) → IsBytes (1 ∷ body)
+    → put_body_in body ≡ Some request
+    → HasRequestBody request × (request_content request ≡ 1 ∷ body)
 put_back [] request fits e = absurd cc
 put_back (key_length ∷ rest) request fits e =
     elim (chosen (leb key_length (length rest)) (Some (Put (take key_length rest) (drop key_length rest))) None (Some request) e) [
       | inl p ↦
           let is : Put (take key_length rest) (drop key_length rest) ≡ request = cc in
-          let size : length (take key_length rest) ≡ key_length = length-take-le key_length rest (leb-true _ _ p.0) in
+          let size : length (take key_length rest) ≡ key_length =
+          length-take-le key_length rest (leb-true _ _ p.0) in
           let key_fits : key_length < 256 = fits 1 in
           subst (λ (r : Request). HasRequestBody r × (request_content r ≡ 1 ∷ key_length ∷ rest)) is
           (omega arith, rw (size, take-append-drop key_length rest) refl)
@@ -33,7 +38,8 @@ put_back (key_length ∷ rest) request fits e =
     ]
 
 -- what is read as a request is its content
-request_back : (bytes : List ℕ) (request : Request) → IsBytes bytes → request_in bytes ≡ Some request → HasRequestBody request × (request_content request ≡ bytes)
+request_back : (bytes : List ℕ) (request : Request) → IsBytes bytes
+    → request_in bytes ≡ Some request → HasRequestBody request × (request_content request ≡ bytes)
 request_back [] request fits e = absurd cc
 request_back (kind ∷ body) request fits e =
     elim (chosen (eqb kind 1) (put_body_in body) (cond (eqb kind 2) (Some (Get body)) None) (Some request) e) [
@@ -62,13 +68,17 @@ request_code = record { again = request_again; back = request_back; some = reque
 
 -- ---- what parsing answers
 
-request_begins : (bytes : List ℕ) (request : Request) (rest : List ℕ) → BeginsWithRequest bytes request rest → Begins Request request_content HasRequestBody bytes request rest
-request_begins bytes request rest p = record { body = p.has.body; size = p.has.size; parts = p.parts }
+request_begins : (bytes : List ℕ) (request : Request) (rest : List ℕ)
+    → BeginsWithRequest bytes request rest
+    → Begins Request request_content HasRequestBody bytes request rest
+request_begins bytes request rest p =
+    record { body = p.has.body; size = p.has.size; parts = p.parts }
 
 -- a content that is read is a whole request
-pub request_is_whole : (bytes content : List ℕ) (request : Request) → IsBytes bytes → BeginsWithContent bytes content → Some request ≡ request_in content → IsWhole bytes request (4 + length content)
-request_is_whole bytes content request fits begins is =
-    let read = begins_read Request request_content HasRequestBody request_in request_code bytes content request fits begins is in
+pub request_is_whole : {bytes content : List ℕ} {request : Request} → BeginsWithContent bytes content
+    → Some request ≡ request_in content → IsBytes bytes → IsWhole bytes request (4 + length content)
+request_is_whole {bytes = bytes} {content = content} {request = request} begins is fits =
+    let read = begins_read request_code bytes content request fits begins is in
     record {
       begins = record { has = record { body = read.0.body; size = read.0.size }; parts = read.0.parts };
       length_is = rw read.1 (omega arith);
@@ -78,22 +88,26 @@ request_is_whole bytes content request fits begins is =
     }
 
 -- no other request begins the bytes
-pub request_is_found : (bytes content : List ℕ) (found request : Request) (rest : List ℕ) → BeginsWithContent bytes content → Some found ≡ request_in content → BeginsWithRequest bytes request rest → (found ≡ request) × (4 + length content ≡ length (request_frame request))
-request_is_found bytes content found request rest begins is p =
-    let read = read_found Request request_content HasRequestBody request_in request_code bytes content request rest begins (request_begins bytes request rest p) in
+pub request_is_found : {bytes content : List ℕ} {found request : Request} {rest : List ℕ}
+    → BeginsWithContent bytes content → Some found ≡ request_in content → BeginsWithRequest bytes request rest
+    → (found ≡ request) × (4 + length content ≡ length (request_frame request))
+request_is_found {bytes = bytes} {content = content} {found = found} {request = request} {rest = rest} begins is p =
+    let read = read_found request_code bytes content request rest begins (request_begins bytes request rest p) in
     let both : Some found ≡ Some request = is ∙ read.0 in
     (cc, omega (arith, read.1))
 
 -- a content that is no request's makes the bytes malformed
-pub request_is_malformed : (bytes content : List ℕ) → BeginsWithContent bytes content → None ≡ request_in content → IsMalformed bytes
-request_is_malformed bytes content begins is =
+pub request_is_malformed : {bytes content : List ℕ} → BeginsWithContent bytes content
+    → None ≡ request_in content → IsMalformed bytes
+request_is_malformed {bytes = bytes} {content = content} begins is =
     let within = content_within bytes content begins in
-    let stated = stated_length-framed content (drop (4 + length content) bytes) bytes (omega (arith, begins.most)) begins.parts in
+    let fits : length content < 2 ^ 32 = omega (arith, begins.most) in
+    let stated = stated_length-framed content (drop (4 + length content) bytes) bytes fits begins.parts in
     record {
       length_there = omega arith;
       all_there = λ some most. omega (arith, within, stated);
       none = λ request rest p.
-          let read = read_found Request request_content HasRequestBody request_in request_code bytes content request rest begins (request_begins bytes request rest p) in
+          let read = read_found request_code bytes content request rest begins (request_begins bytes request rest p) in
           let both : None ≡ Some request = is ∙ read.0 in
           absurd cc;
     }
@@ -104,15 +118,19 @@ request_out_is_malformed bytes out =
     record {
       length_there = out.length_there;
       all_there = λ some most. absurd (omega (arith, out.out some));
-      none = λ request rest p. out_of_range_begins_none Request request_content HasRequestBody request_in request_code bytes request rest out (request_begins bytes request rest p);
+      none = λ request rest p.
+          out_of_range_begins_none request_code bytes request rest out (request_begins bytes request rest p);
     }
 
 -- no request begins a part of a frame
 pub request_partial : (bytes : List ℕ) → IsPartial bytes → BeginsWithNoRequest bytes
 request_partial bytes partial request rest p =
-    partial_begins_none Request request_content HasRequestBody bytes request rest partial (request_begins bytes request rest p)
+    partial_begins_none bytes request rest partial (request_begins bytes request rest p)
 
 -- requests whose frames begin the same bytes are one
-pub request_once : (bytes : List ℕ) (request other : Request) (rest behind : List ℕ) → BeginsWithRequest bytes request rest → BeginsWithRequest bytes other behind → (request ≡ other) × (rest ≡ behind)
+pub request_once : (bytes : List ℕ) (request other : Request) (rest behind : List ℕ)
+    → BeginsWithRequest bytes request rest → BeginsWithRequest bytes other behind
+    → (request ≡ other) × (rest ≡ behind)
 request_once bytes request other rest behind p q =
-    begins_once Request request_content HasRequestBody request_in request_code bytes request other rest behind (request_begins bytes request rest p) (request_begins bytes other behind q)
+    begins_once request_code bytes request other rest behind
+    (request_begins bytes request rest p) (request_begins bytes other behind q)

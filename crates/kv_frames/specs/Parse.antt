@@ -8,7 +8,8 @@ use Rattle.kv_frames.specs.declared.view.Parsed.TheVariants.{Whole, More, Malfor
 use Rattle.kv_frames.specs.declared.replies.ReplyParsed.{ReplyParsed}
 use Rattle.kv_frames.specs.declared.replies.ReplyParsed.TheVariants as reply
 use Rattle.kv_frames.specs.View.{request_of}
-use Rattle.kv_model.specs.Frames.{BeginsWithRequest, request_frame, BeginsWithReply, reply_frame, IsPartial, IsMalformed, IsMalformedReply}
+use Rattle.kv_model.specs.Frames.{BeginsWithRequest, request_frame, IsPartial, IsMalformed}
+use Rattle.kv_model.specs.Frames.{BeginsWithReply, reply_frame, IsMalformedReply}
 
 -- the frame of the request, which has this length, begins the bytes
 pub record IsWhole (bytes : List ℕ) (request : Request) (frame_length : ℕ) : Type 0 where
@@ -26,7 +27,8 @@ IsParsed Malformed bytes = IsMalformed bytes
 
 -- the answer is this request, with the length of its frame
 abbrev pub IsFound : Parsed → Request → Type 0
-IsFound (Whole found frame_length) request = (request_of found ≡ request) × (frame_length ≡ length (request_frame request))
+IsFound (Whole found frame_length) request =
+    (request_of found ≡ request) × (frame_length ≡ length (request_frame request))
 IsFound More request = ⊥
 IsFound Malformed request = ⊥
 
@@ -46,10 +48,13 @@ IsReplyParsed reply.Malformed bytes = IsMalformedReply bytes
 
 -- the answer is this reply, with the length of its frame
 abbrev pub IsReplyFound : ReplyParsed → Reply → Type 0
-IsReplyFound (reply.Whole found frame_length) wanted = (found ≡ wanted) × (frame_length ≡ length (reply_frame wanted))
+IsReplyFound (reply.Whole found frame_length) wanted =
+    (found ≡ wanted) × (frame_length ≡ length (reply_frame wanted))
 IsReplyFound reply.More wanted = ⊥
 IsReplyFound reply.Malformed wanted = ⊥
 
 -- the frame of a Found begins the bytes
 abbrev pub BeginsWithFound : List ℕ → Type 0
-BeginsWithFound bytes = (stamp : ℕ) × (value : List ℕ) × (rest : List ℕ) × BeginsWithReply bytes (Found stamp value) rest
+BeginsWithFound bytes =
+    (stamp : ℕ) × (value : List ℕ) × (rest : List ℕ)
+    × BeginsWithReply bytes (Found stamp value) rest

@@ -7,5 +7,7 @@ use Rattle.kv_model.specs.Frames.{SplitsInto}
 abbrev pub ReadInPieces : List (List ℕ) → List ℕ → List Request → List ℕ → Type 0
 ReadInPieces [] left requests rest = (requests ≡ []) × (rest ≡ left)
 ReadInPieces (piece ∷ pieces) left requests rest =
-    (now : List Request) × (later : List Request) × (between : List ℕ) × SplitsInto (left ++ piece) now between
-    × ReadInPieces pieces between later rest × (requests ≡ now ++ later)
+    (now : List Request) × (later : List Request) × (between : List ℕ)
+    × SplitsInto (left ++ piece) now between
+    × ReadInPieces pieces between later rest
+    × (requests ≡ now ++ later)

@@ -1,4 +1,4 @@
--- Contents read from left to right.
+-- Contents read from left to right, as the private steps of parsing read them. The public calls speak of frames alone.
 use Rattle.std.specs.Prelude.{◌≡◌, ℕ, ◌==◌, List, [], ◌∷◌, length, take, drop, Option, Some, None, nat_le, if◌then◌else◌}
 use Rattle.std.specs.Int.{w64, from_le_bytes}
 use Rattle.std.specs.Option.{option_and_then}
@@ -9,7 +9,8 @@ use Rattle.kv_base.specs.declared.reply.Reply.TheVariants.{Stored, Found, Missin
 
 -- the key of so many bytes, and the value behind it, where the key is all there
 abbrev pub put_in : ℕ → List ℕ → Option Request
-put_in key_length body = if nat_le key_length (length body) then Some (Put (take key_length body) (drop key_length body)) else None
+put_in key_length body =
+    if nat_le key_length (length body) then Some (Put (take key_length body) (drop key_length body)) else None
 
 -- a Put's body: the length of the key in a byte, the key, the value
 abbrev pub put_body_in : List ℕ → Option Request
@@ -19,7 +20,9 @@ put_body_in (key_length ∷ rest) = put_in key_length rest
 -- the request with this content, where there is one
 abbrev pub request_in : List ℕ → Option Request
 request_in [] = None
-request_in (kind ∷ body) = if kind == 1 then put_body_in body else (if kind == 2 then Some (Get body) else None)
+request_in (kind ∷ body) =
+    if kind == 0x01 then put_body_in body else
+    (if kind == 0x02 then Some (Get body) else None)
 
 -- the number that a body of eight bytes is
 abbrev pub number_in : List ℕ → Option ℕ
@@ -50,11 +53,13 @@ stamped_of kind number =
 abbrev pub plain_in : ℕ → List ℕ → Option Reply
 plain_in kind [] = bare_of kind
 plain_in kind (class ∷ []) = full_of kind class
-plain_in kind (first ∷ second ∷ rest) = option_and_then (λ number. stamped_of kind number) (number_in (first ∷ second ∷ rest))
+plain_in kind (first ∷ second ∷ rest) =
+    option_and_then (λ number. stamped_of kind number) (number_in (first ∷ second ∷ rest))
 
 -- a stamp, and the value behind it
 abbrev pub found_in : List ℕ → Option Reply
-found_in body = if nat_le 8 (length body) then Some (Found (from_le_bytes w64 (take 8 body)) (drop 8 body)) else None
+found_in body =
+    if nat_le 8 (length body) then Some (Found (from_le_bytes w64 (take 8 body)) (drop 8 body)) else None
 
 -- the reply with this content, where there is one
 abbrev pub reply_in : List ℕ → Option Reply

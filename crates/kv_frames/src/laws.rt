@@ -1,7 +1,9 @@
-ghost use Rattle.kv_frames.specs.Laws.{OneRequest, OneReply, OneSplit, WrittenAgain, PartialBeginsNone, MalformedStays, NextRequest, NextPiece, OneOutcome, OneReading, OneTranscript};
+ghost use Rattle.kv_frames.specs.Laws.{OneRequest, OneReply, OneSplit, OneReading, OneOutcome};
+ghost use Rattle.kv_frames.specs.Laws.{OneTranscript, WrittenAgain, PartialBeginsNone, MalformedStays};
+ghost use Rattle.kv_frames.specs.Laws.{NextRequest, NextPiece};
 
-/// A request has one frame at most, and no request's frame begins another: bytes begin with one request at most,
-/// and it leaves one rest.
+/// A request has one frame at most, and no request's frame begins another: bytes begin with one
+/// request at most, and it leaves one rest.
 pub fn one_request()
     ensures { OneRequest }
 {}
@@ -11,14 +13,13 @@ pub fn one_reply()
     ensures { OneReply }
 {}
 
-/// The requests of a stream and what is left behind them are determined by its bytes, so it doesn't matter in which
-/// pieces they came.
+/// The bytes of a stream determine its requests and what is left behind them.
 pub fn one_split()
     ensures { OneSplit }
 {}
 
-/// What is written is read again, whatever follows: where `put_request` or `put_reply` wrote a frame, these bytes
-/// begin with it, and so `parse_request` and `parse_reply` find it.
+/// What is written is read again, whatever follows: bytes that `put_request` or `put_reply` wrote
+/// begin with the value's frame, and so `parse_request` and `parse_reply` find it.
 pub fn written_again()
     ensures { WrittenAgain }
 {}
@@ -53,8 +54,8 @@ pub fn one_outcome()
     ensures { OneOutcome }
 {}
 
-/// What a session took and gave, what is left and why it ended tell which requests it handled and what it replied
-/// to each.
+/// What a session took and gave, what is left and why it ended tell which requests it handled and
+/// what it replied to each.
 pub fn one_transcript()
     ensures { OneTranscript }
 {}

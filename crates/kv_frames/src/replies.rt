@@ -1,7 +1,8 @@
 ghost use Rattle.std.specs.Prelude.{◌≡◌, ℕ, List, ◌∷◌, IfOk, OnErr};
 ghost use Rattle.kv_base.specs.declared.reply.Reply.{Reply};
 ghost use Rattle.kv_model.specs.Frames.{BeginsWithReply, IsPartial, IsMalformedReply};
-ghost use Rattle.kv_frames.specs.Reading.{number_in, bare_of, full_of, stamped_of, plain_in, found_in, reply_in, IsFoundContent};
+ghost use Rattle.kv_frames.specs.Reading.{number_in, bare_of, full_of, stamped_of};
+ghost use Rattle.kv_frames.specs.Reading.{plain_in, found_in, reply_in, IsFoundContent};
 ghost use Rattle.kv_frames.specs.Parse.{IsReplyParsed, IsReplyFound, BeginsWithFound};
 
 use crate::cut::{Front, cut_front};
@@ -25,11 +26,12 @@ pub enum ReplyParsed {
     Malformed,
 }
 
-/// Parses the reply that the bytes begin with. The one error is want of memory for the value of a `Found`; all
-/// else takes no memory.
+/// Parses the reply that the bytes begin with. The one error is want of memory for the value of a
+/// `Found`; all else takes no memory.
 pub fn parse_reply(alloc: Global, bytes: &[u8]) -> Result<ReplyParsed, NoMemory>
     ensures cases { IfOk result (λ parsed. IsReplyParsed parsed bytes.now) }
-    ensures whole { (reply : Reply) (rest : List ℕ) → BeginsWithReply bytes.now reply rest → IfOk result (λ parsed. IsReplyFound parsed reply) }
+    ensures whole { (reply : Reply) (rest : List ℕ) → BeginsWithReply bytes.now reply rest
+        → IfOk result (λ parsed. IsReplyFound parsed reply) }
     ensures more { IsPartial bytes.now → result ≡ Ok ReplyParsed.More }
     ensures malformed { IsMalformedReply bytes.now → result ≡ Ok ReplyParsed.Malformed }
     ensures err { OnErr result (BeginsWithFound bytes.now) }

@@ -1,9 +1,9 @@
 -- Lemmas on contents that are written and read: those of requests and those of replies.
-use Rattle.std.proofs.Common.{◌≡◌, ℕ, ◌+◌, ◌^◌, ◌<◌, ◌≤◌, List, ◌++◌, length, drop, Option, Some, None, Bool, true, false, cond, ◌⊎◌, inl, inr, refl, sym, ap, subst, ◌∙◌, arith}
+use Rattle.std.proofs.Common.{◌≡◌, ℕ, ◌+◌, ◌^◌, ◌<◌, ◌≤◌, List, ◌++◌, length, drop, Option, Some, Bool, true, false, cond, ◌⊎◌, inl, inr, refl, sym, ap, ◌∙◌, arith}
 use Rattle.std.proofs.lemmas.List.{length-append}
-use Rattle.kv_model.specs.Frames.{framed, stated_length, longest_content, IsPartial}
+use Rattle.kv_model.specs.Frames.{framed, longest_content, IsPartial}
 use Rattle.kv_frames.specs.Cut.{BeginsWithContent, IsOutOfRange}
-use Rattle.kv_frames.proofs.FramingLemmas.{IsBytes, IsBytes-content, framed_once, stated_length-framed, content_within}
+use Rattle.kv_frames.proofs.FramingLemmas.{IsBytes, IsBytes-content, framed_once, stated_length-framed}
 
 -- contents of values: how they are written, which values have one, and how they are read
 pub record IsCode (V : Type 0) (content : V → List ℕ) (Has : V → Type 0) (read : List ℕ → Option V) : Type 0 where

@@ -4,8 +4,8 @@ use Rattle.std.specs.Int.{w32, to_le_bytes, from_le_bytes}
 use Rattle.std.proofs.lemmas.Bool.{cases_lt}
 use Rattle.std.proofs.lemmas.List.{take_at, drop_at, take-append-drop, drop-drop, length-append, length-take, length-drop, length-take-le, get_or-drop, get_or-take, get_or_past}
 use Rattle.std.proofs.lemmas.Nat.{le_bytes_4, from_le_bytes-to_le_bytes_4}
-use Rattle.kv_model.specs.Frames.{framed, stated_length, longest_content, IsPartial}
-use Rattle.kv_frames.specs.Cut.{BeginsWithContent, IsOutOfRange}
+use Rattle.kv_model.specs.Frames.{framed, stated_length, longest_content}
+use Rattle.kv_frames.specs.Cut.{BeginsWithContent}
 
 -- each element is a byte
 abbrev pub IsBytes : List ℕ → Type 0

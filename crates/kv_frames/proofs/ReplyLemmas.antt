@@ -1,5 +1,5 @@
 -- Lemmas on frames of replies.
-use Rattle.std.proofs.Common.{◌≡◌, ℕ, suc, ◌+◌, ◌^◌, ◌<◌, ◌≤◌, Bool, true, false, cond, List, [], ◌∷◌, ◌++◌, length, take, drop, Option, Some, None, Result, Ok, Err, inl, inr, refl, sym, ap, subst, ◌∙◌, arith, eqb, leb}
+use Rattle.std.proofs.Common.{◌≡◌, ℕ, suc, ◌+◌, ◌^◌, ◌<◌, ◌≤◌, true, cond, List, [], ◌∷◌, ◌++◌, length, take, drop, Option, Some, None, Result, Ok, Err, inl, inr, refl, sym, ap, subst, ◌∙◌, arith, eqb, leb}
 use Rattle.std.specs.Prelude.{OnErr}
 use Rattle.std.specs.Option.{option_and_then}
 use Rattle.std.specs.Int.{w64, to_le_bytes, from_le_bytes}
@@ -8,7 +8,7 @@ use Rattle.std.proofs.lemmas.List.{take-append-drop, length-append, length-take-
 use Rattle.std.proofs.lemmas.Nat.{le_bytes_8, from_le_bytes-to_le_bytes_8}
 use Rattle.kv_base.specs.declared.reply.Reply.{Reply}
 use Rattle.kv_base.specs.declared.reply.Reply.TheVariants.{Stored, Found, Missing, BadKey, TooLarge, Full, NoMemory, DiskFault, Unsure, Closed, Malformed}
-use Rattle.kv_model.specs.Frames.{reply_content, HasReplyBody, HasReplyFrame, reply_frame, BeginsWithReply, BeginsWithNoReply, IsPartial, IsMalformedReply}
+use Rattle.kv_model.specs.Frames.{reply_content, HasReplyBody, reply_frame, BeginsWithReply, BeginsWithNoReply, IsPartial, IsMalformedReply}
 use Rattle.kv_frames.specs.Cut.{BeginsWithContent, IsOutOfRange}
 use Rattle.kv_frames.specs.Reading.{number_in, bare_of, full_of, stamped_of, plain_in, found_in, reply_in, IsFoundContent}
 use Rattle.kv_frames.specs.Parse.{IsWholeReply, BeginsWithFound}

@@ -1,4 +1,4 @@
--- Contents read from left to right, as the private steps of parsing read them. The public calls speak of frames alone.
+-- Contents read from left to right, as the private steps of parsing read them.
 use Rattle.std.specs.Prelude.{◌≡◌, ℕ, ◌==◌, List, [], ◌∷◌, length, take, drop, Option, Some, None, nat_le, if◌then◌else◌}
 use Rattle.std.specs.Int.{w64, from_le_bytes}
 use Rattle.std.specs.Option.{option_and_then}
@@ -10,7 +10,8 @@ use Rattle.kv_base.specs.declared.reply.Reply.TheVariants.{Stored, Found, Missin
 -- the key of so many bytes, and the value behind it, where the key is all there
 abbrev pub put_in : ℕ → List ℕ → Option Request
 put_in key_length body =
-    if nat_le key_length (length body) then Some (Put (take key_length body) (drop key_length body)) else None
+    if nat_le key_length (length body)
+    then Some (Put (take key_length body) (drop key_length body)) else None
 
 -- a Put's body: the length of the key in a byte, the key, the value
 abbrev pub put_body_in : List ℕ → Option Request

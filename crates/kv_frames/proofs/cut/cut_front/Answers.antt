@@ -1,7 +1,6 @@
 -- The length is the number in the first four bytes, and so many bytes follow.
-use Rattle.std.proofs.Common.{◌≡◌, length, drop, ap, ◌∙◌, arith}
+use Rattle.std.proofs.Common.{◌≡◌, drop, ap, ◌∙◌, arith}
 use Rattle.std.specs.Int.{w32, from_le_bytes}
-use Rattle.std.proofs.lemmas.List.{length-drop}
 use Rattle.kv_model.specs.Frames.{stated_length}
 use Rattle.kv_frames.proofs.FramingLemmas.{content_here}
 use Rattle.kv_frames.proofs.cut.cut_front.Goals as goal

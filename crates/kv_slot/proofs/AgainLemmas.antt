@@ -16,13 +16,13 @@ use Rattle.kv_slot.proofs.SlotLemmas.{class_holds, room_of_small}
 pub room_limit : (class : ℕ) → class ≤ 11 → room_of class ≤ 65400
 room_limit class limit =
     elim (cases_lt class 8) [
-      inl small ↦
-        let size : 2 ^ (class + 5) ≤ 2 ^ 12 = pow_mono {i = class + 5} {j = 12} (omega arith) in
-        omega (arith, room_of_small class (omega arith), size)
-    | inr large ↦
-        let room : room_of class ≡ 4080 + 4088 * (2 ^ (class - 7) - 1) = cond-false (leb class 7) _ _ (lt-leb class 7 (omega arith)) in
-        let pages : 2 ^ (class - 7) ≤ 2 ^ 4 = pow_mono {i = class - 7} {j = 4} (omega arith) in
-        omega (arith, room, pages)
+      | inl small ↦
+          let size : 2 ^ (class + 5) ≤ 2 ^ 12 = pow_mono {i = class + 5} {j = 12} (omega arith) in
+          omega (arith, room_of_small class (omega arith), size)
+      | inr large ↦
+          let room : room_of class ≡ 4080 + 4088 * (2 ^ (class - 7) - 1) = cond-false (leb class 7) _ _ (lt-leb class 7 (omega arith)) in
+          let pages : 2 ^ (class - 7) ≤ 2 ^ 4 = pow_mono {i = class - 7} {j = 4} (omega arith) in
+          omega (arith, room, pages)
     ]
 
 -- an item of its class, from its fields and its content

@@ -32,26 +32,26 @@ later_content stamp key value page later =
 padded-append : (a b : ℕ) (bytes : List ℕ) → padded a (take a bytes) ++ padded b (take b (drop a bytes)) ≡ padded (a + b) (take (a + b) bytes)
 padded-append a b bytes =
     elim (cases_lt a (length bytes)) [
-      inl more ↦
-        let full : length (take a bytes) ≡ a = length-take-le a bytes (omega arith) in
-        let none : a - length (take a bytes) ≡ 0 = omega arith in
-        let front : padded a (take a bytes) ≡ take a bytes = ap (λ count. take a bytes ++ replicate count 0) none ∙ append-nil (take a bytes) in
-        let both : take (a + b) bytes ≡ take a bytes ++ take b (drop a bytes) = take-add a b bytes in
-        let count : b - length (take b (drop a bytes)) ≡ a + b - length (take (a + b) bytes) = omega (arith, ap length both, length-append (take a bytes) (take b (drop a bytes))) in
-        ap (λ start. start ++ padded b (take b (drop a bytes))) front
-        ∙ sym (append_assoc (take a bytes) (take b (drop a bytes)) (replicate (b - length (take b (drop a bytes))) 0))
-        ∙ ap (λ start. start ++ replicate (b - length (take b (drop a bytes))) 0) (sym both)
-        ∙ ap (λ n. take (a + b) bytes ++ replicate n 0) count
-    | inr less ↦
-        let all : take a bytes ≡ bytes = take_all a bytes less in
-        let rest : take b (drop a bytes) ≡ [] = ap (take b) (drop_all a bytes less) ∙ take_all b [] (omega arith) in
-        let whole : take (a + b) bytes ≡ bytes = take_all (a + b) bytes (omega arith) in
-        let count : a - length bytes + b ≡ a + b - length bytes = omega arith in
-        ap (λ start. padded a start ++ padded b (take b (drop a bytes))) all
-        ∙ ap (λ end. padded a bytes ++ end) (ap (padded b) rest ∙ ap (λ n. replicate n 0) (omega arith))
-        ∙ append_assoc bytes (replicate (a - length bytes) 0) (replicate b 0)
-        ∙ ap (λ zeros. bytes ++ zeros) (replicate-append-replicate (a - length bytes) b 0 ∙ ap (λ n. replicate n 0) count)
-        ∙ ap (padded (a + b)) (sym whole)
+      | inl more ↦
+          let full : length (take a bytes) ≡ a = length-take-le a bytes (omega arith) in
+          let none : a - length (take a bytes) ≡ 0 = omega arith in
+          let front : padded a (take a bytes) ≡ take a bytes = ap (λ count. take a bytes ++ replicate count 0) none ∙ append-nil (take a bytes) in
+          let both : take (a + b) bytes ≡ take a bytes ++ take b (drop a bytes) = take-add a b bytes in
+          let count : b - length (take b (drop a bytes)) ≡ a + b - length (take (a + b) bytes) = omega (arith, ap length both, length-append (take a bytes) (take b (drop a bytes))) in
+          ap (λ start. start ++ padded b (take b (drop a bytes))) front
+          ∙ sym (append_assoc (take a bytes) (take b (drop a bytes)) (replicate (b - length (take b (drop a bytes))) 0))
+          ∙ ap (λ start. start ++ replicate (b - length (take b (drop a bytes))) 0) (sym both)
+          ∙ ap (λ n. take (a + b) bytes ++ replicate n 0) count
+      | inr less ↦
+          let all : take a bytes ≡ bytes = take_all a bytes less in
+          let rest : take b (drop a bytes) ≡ [] = ap (take b) (drop_all a bytes less) ∙ take_all b [] (omega arith) in
+          let whole : take (a + b) bytes ≡ bytes = take_all (a + b) bytes (omega arith) in
+          let count : a - length bytes + b ≡ a + b - length bytes = omega arith in
+          ap (λ start. padded a start ++ padded b (take b (drop a bytes))) all
+          ∙ ap (λ end. padded a bytes ++ end) (ap (padded b) rest ∙ ap (λ n. replicate n 0) (omega arith))
+          ∙ append_assoc bytes (replicate (a - length bytes) 0) (replicate b 0)
+          ∙ ap (λ zeros. bytes ++ zeros) (replicate-append-replicate (a - length bytes) b 0 ∙ ap (λ n. replicate n 0) count)
+          ∙ ap (padded (a + b)) (sym whole)
     ]
 
 -- the later pages from this one on, without their heads, have what follows of key and value, filled up

@@ -33,14 +33,14 @@ large_item layout class stamp kind key_length value_length first header front la
 pub take-append : (count : ℕ) (xs ys : List ℕ) → take count (xs ++ ys) ≡ take count xs ++ take (count - length (take count xs)) ys
 take-append count xs ys =
     elim (cases_lt count (length xs)) [
-      inl less ↦
-        let all : length (take count xs) ≡ count = length-take-le count xs (omega arith) in
-        let none : count - length (take count xs) ≡ 0 = omega arith in
-        take-append-le count xs ys (omega arith) ∙ sym (append-nil (take count xs)) ∙ ap (λ n. take count xs ++ take n ys) (sym none)
-    | inr more ↦
-        let all : take count xs ≡ xs = take_all count xs more in
-        let left : length xs + (count - length xs) ≡ count = omega arith in
-        ap (λ n. take n (xs ++ ys)) (sym left) ∙ take-append-add xs ys (count - length xs) ∙ ap (λ front. front ++ take (count - length front) ys) (sym all)
+      | inl less ↦
+          let all : length (take count xs) ≡ count = length-take-le count xs (omega arith) in
+          let none : count - length (take count xs) ≡ 0 = omega arith in
+          take-append-le count xs ys (omega arith) ∙ sym (append-nil (take count xs)) ∙ ap (λ n. take count xs ++ take n ys) (sym none)
+      | inr more ↦
+          let all : take count xs ≡ xs = take_all count xs more in
+          let left : length xs + (count - length xs) ≡ count = omega arith in
+          ap (λ n. take n (xs ++ ys)) (sym left) ∙ take-append-add xs ys (count - length xs) ∙ ap (λ front. front ++ take (count - length front) ys) (sym all)
     ]
 
 -- the rest of key and value, behind the key

@@ -4,3 +4,4 @@ pub mod HeadLemmas
 pub mod AgainLemmas
 pub mod LargeLemmas
 pub mod LargeAgainLemmas
+pub mod PlaceLemmas

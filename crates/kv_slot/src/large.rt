@@ -190,9 +190,7 @@ pub fn put_large(
     let count = pages_in_slot(class);
     let mut pages = ReservedList::with_room(alloc, count)?;
     for number in 0..count {
-        pages
-            .append(page_with(stamp, key, value, number))
-            .unwrap();
+        pages.append(page_with(stamp, key, value, number)).unwrap();
     }
     Ok(pages)
 }
@@ -230,7 +228,10 @@ fn part_of<'a>(key: &[u8], value: &'a [u8], number: usize) -> &'a [u8]
     ensures len { length result.now ≤ 4088 }
 {
     front_of(
-        rest_of(value, FIRST_CONTENT + LATER_CONTENT * (number - 1) - key.len()),
+        rest_of(
+            value,
+            FIRST_CONTENT + LATER_CONTENT * (number - 1) - key.len(),
+        ),
         LATER_CONTENT,
     )
 }

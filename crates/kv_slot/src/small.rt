@@ -171,14 +171,7 @@ pub fn put_fitting(
 
 /// Writes an item of this class, 1 to 7, into its slot at the offset. The rest of the slot is zeros, and
 /// all bytes outside it stay.
-pub fn put_item(
-    page: &mut [u8; 4096],
-    class: u8,
-    offset: u32,
-    stamp: u64,
-    key: &[u8],
-    value: &[u8],
-)
+pub fn put_item(page: &mut [u8; 4096], class: u8, offset: u32, stamp: u64, key: &[u8], value: &[u8])
     requires class { (1 ≤ class) × (class ≤ 7) }
     requires within { offset + slot_size class ≤ 4096 }
     requires item { class_of all_classes (length key.now) (length value.now) ≡ Some class }

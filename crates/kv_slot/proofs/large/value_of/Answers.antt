@@ -11,5 +11,5 @@ loop-page-preserved c =
     let whole : take 4088 (drop 8 page) ≡ drop 8 page = take_all 4088 (drop 8 page) (omega (arith, length-drop 8 page)) in
     record {
       copied = copy_more c.args.value_len c.loop-page.page-index c.args.front.now _ _ _ c.args.later.now (omega arith) whole c.loop-page.invariant.copied c.in_ok-append_up_to-2.ensures.ok;
-      limit = c.in_ok-append_up_to-2.ensures.len
+      limit = c.in_ok-append_up_to-2.ensures.len;
     }

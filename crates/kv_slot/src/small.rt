@@ -156,7 +156,8 @@ pub fn put_fitting(
     requires within { offset + slot_size class ≤ 4096 }
     requires key { (1 ≤ length key.now) × (length key.now ≤ 255) }
     requires fits { length key.now + length value.now ≤ room_of class }
-    ensures { page.new ≡ overwritten page.old offset (item_bytes class stamp key.now value.now) }
+    ensures bytes { page.new ≡ overwritten page.old offset (item_bytes class stamp key.now value.now) }
+    ensures size { length page.new ≡ 4096 }
 {
     let begin = offset as usize;
     let size = slot_size(class);
@@ -175,7 +176,8 @@ pub fn put_item(page: &mut [u8; 4096], class: u8, offset: u32, stamp: u64, key: 
     requires class { (1 ≤ class) × (class ≤ 7) }
     requires within { offset + slot_size class ≤ 4096 }
     requires item { class_of all_classes (length key.now) (length value.now) ≡ Some class }
-    ensures { page.new ≡ overwritten page.old offset (item_bytes class stamp key.now value.now) }
+    ensures bytes { page.new ≡ overwritten page.old offset (item_bytes class stamp key.now value.now) }
+    ensures size { length page.new ≡ 4096 }
 {
     put_fitting(page, class, offset, stamp, key, value);
 }

@@ -21,7 +21,8 @@ pub fn put_tombstone(page: &mut [u8; 4096], class: u8, offset: u32, stamp: u64, 
     requires small { class ≤ 7 → offset + slot_size class ≤ 4096 }
     requires large { 8 ≤ class → offset ≡ 0 }
     requires link { ForSome link (λ slot. slot < 2 ^ 24) }
-    ensures { page.new ≡ overwritten page.old offset (tombstone_bytes class stamp link) }
+    ensures bytes { page.new ≡ overwritten page.old offset (tombstone_bytes class stamp link) }
+    ensures size { length page.new ≡ 4096 }
 {
     let begin = offset as usize;
     let size = tombstone_size(class);

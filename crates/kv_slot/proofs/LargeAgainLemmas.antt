@@ -1,15 +1,15 @@
 -- Lemmas that what is put in a large slot is read again.
-use Rattle.std.proofs.Common.{◌≡◌, ◌≢◌, ℕ, zero, suc, ◌+◌, ◌-◌, ◌*◌, ◌^◌, ◌<◌, ◌≤◌, Bool, true, false, cond, eqb, leb, ◌&&◌, List, [], ◌∷◌, ◌++◌, length, map, set, take, drop, replicate, Some, refl, sym, ap, ◌∙◌, inl, inr, arith, append_assoc, length-append, length-drop, length-take, add-one}
-use Rattle.std.specs.Int.{w16, w32, w64, from_le_bytes, to_le_bytes}
+use Rattle.std.proofs.Common.{◌≡◌, ◌≢◌, ℕ, zero, suc, ◌+◌, ◌-◌, ◌*◌, ◌^◌, ◌<◌, ◌≤◌, true, false, cond, eqb, leb, List, [], ◌∷◌, ◌++◌, length, map, set, take, drop, replicate, Some, refl, sym, ap, ◌∙◌, inl, inr, arith, append_assoc, length-append, add-one}
+use Rattle.std.specs.Int.{w16, w32, from_le_bytes, to_le_bytes}
 use Rattle.std.specs.List.{flat_map, list_all, range_with_len}
 use Rattle.std.proofs.lemmas.Bool.{cases_lt, cond-true, cond-false, eq-eqb, ne_eqb, lt-leb, and_from, and_left, and_right}
-use Rattle.std.proofs.lemmas.List.{take_at, drop_at, take_all, drop_all, drop-drop, append-nil, length-take-le, replicate-append-replicate}
+use Rattle.std.proofs.lemmas.List.{take_all, drop_all, drop-drop, append-nil, length-take-le, replicate-append-replicate}
 use Rattle.std.proofs.lemmas.Nat.{from_le_bytes-to_le_bytes_2, from_le_bytes-to_le_bytes_4, from_le_bytes-to_le_bytes_8, pow_pos}
 use Rattle.std.proofs.lemmas.List.FromFn.{length-map-range_with_len}
-use Rattle.kv_model.specs.Layout.{Layout, class_of, room_of, pages_in_slot, page_size}
+use Rattle.kv_model.specs.Layout.{Layout, class_of, room_of, pages_in_slot}
 use Rattle.kv_model.specs.Padding.{padded}
-use Rattle.kv_model.specs.SlotBytes.{item_header, large_page, large_pages}
-use Rattle.kv_model.specs.Slots.{Slot, Item, Bad, Torn, is_class, stamp_field, read_item, read_parts, read_large}
+use Rattle.kv_model.specs.SlotBytes.{large_page, large_pages}
+use Rattle.kv_model.specs.Slots.{Item, Bad, Torn, is_class, stamp_field, read_item, read_large}
 use Rattle.kv_base.proofs.StreamLemmas.{take-add}
 use Rattle.kv_slot.specs.Laws.{LargeItemsReadAgain, OtherStampsTear}
 use Rattle.kv_slot.proofs.AgainLemmas.{item_is, room_limit}

@@ -1,14 +1,14 @@
 -- Lemmas that what is written stays in its place.
-use Rattle.std.proofs.Common.{◌≡◌, ℕ, ◌+◌, ◌-◌, ◌*◌, ◌^◌, ◌<◌, ◌≤◌, Bool, cond, eqb, leb, List, ◌++◌, length, take, drop, replicate, Option, Some, refl, sym, ap, ◌∙◌, inl, inr, arith, append_assoc, length-append, length-drop, length-take}
-use Rattle.std.specs.Int.{w16, w32, w64, from_le_bytes, to_le_bytes}
-use Rattle.std.proofs.lemmas.Bool.{cases_lt, cases_eq, cond-true, cond-false, cond_both, eq-eqb, ne_eqb, leb-false}
-use Rattle.std.proofs.lemmas.List.{take_at, drop_at, drop-append-le, take-append-le, length-take-le, take-append-drop, drop-drop, drop-take, take-take, length-replicate}
+use Rattle.std.proofs.Common.{◌≡◌, ℕ, ◌+◌, ◌-◌, ◌*◌, ◌≤◌, eqb, leb, List, ◌++◌, length, take, drop, replicate, refl, sym, ap, ◌∙◌, arith, append_assoc, length-append, length-drop, length-take}
+use Rattle.std.specs.Int.{w64, to_le_bytes}
+use Rattle.std.proofs.lemmas.Bool.{cond_both}
+use Rattle.std.proofs.lemmas.List.{take_at, drop_at, take-append-le, length-take-le, drop-drop, drop-take, take-take, length-replicate}
 use Rattle.std.proofs.lemmas.Nat.{from_le_bytes-to_le_bytes_8, pow-add, pow_pos}
-use Rattle.kv_model.specs.Layout.{Layout, class_of, slot_size, page_size, room_of}
+use Rattle.kv_model.specs.Layout.{slot_size, page_size}
 use Rattle.kv_model.specs.Padding.{padded}
 use Rattle.kv_model.specs.SlotBytes.{header_bytes, item_header, item_bytes, tombstone_bytes, tombstone_size, link_field, large_page}
 use Rattle.kv_model.specs.Slots.{stamp_field}
-use Rattle.kv_slot.specs.Laws.{part_at, IsPutInPlace, OverwritesStayInPlace, HaveTheirSize, BeginWithStamp}
+use Rattle.kv_slot.specs.Laws.{OverwritesStayInPlace, HaveTheirSize, BeginWithStamp}
 use Rattle.kv_slot.specs.Overwrite.{overwritten}
 use Rattle.kv_slot.proofs.SlotLemmas.{class_holds, room_of_small}
 

@@ -1,4 +1,4 @@
-ghost use Rattle.std.specs.Prelude.{◌≡◌, length};
+ghost use Rattle.std.specs.Prelude.{◌≡◌, ◌-◌, ◌≤◌, length};
 
 use crate::{
     HeadRead, Large, PageList, Slot, class_of, large_slots_read_again, link_of, page_stamp,
@@ -13,6 +13,14 @@ fn page_full_of(byte: u8) -> [u8; 4096]
     ensures { length result ≡ 4096 }
 {
     [byte; 4096]
+}
+
+fn part(bytes: &[u8], begin: usize, end: usize) -> &[u8]
+    requires order { begin ≤ end }
+    requires within { end ≤ length bytes.now }
+    ensures { length result.now ≡ end - begin }
+{
+    &bytes[begin..end]
 }
 
 fn is_full_of(bytes: &[u8], byte: u8) -> bool {
@@ -61,10 +69,16 @@ fn a_small_slot_is_written_byte_by_byte(rt: HostRuntime) {
     let front = b"\x08\x07\x06\x05\x04\x03\x02\x01\x01\x00\x03\x00\x05\x00\x00\x00keyvalue";
     let mut page = page_full_of(0xff);
     put_item(&mut page, 1, 64, 0x0102_0304_0506_0708, b"key", b"value");
-    assert!(rt; same(&page[64..88], front), "header, key and value");
-    assert!(rt; is_full_of(&page[88..128], 0), "zeros to the slot's end");
-    assert!(rt; is_full_of(&page[..64], 0xff), "the slot before");
-    assert!(rt; is_full_of(&page[128..], 0xff), "the slots behind");
+    assert!(rt; same(part(&page, 64, 88), front), "header, key and value");
+    assert!(rt;
+        is_full_of(part(&page, 88, 128), 0),
+        "zeros to the slot's end"
+    );
+    assert!(rt; is_full_of(part(&page, 0, 64), 0xff), "the slot before");
+    assert!(rt;
+        is_full_of(part(&page, 128, 4096), 0xff),
+        "the slots behind"
+    );
     assert!(rt;
         is_item(
             &read_slot(&page, 1, 64),
@@ -81,12 +95,12 @@ fn the_largest_small_item_fills_its_page(rt: HostRuntime) {
     // 4,079 is 0x0fef
     let front = b"\x09\x00\x00\x00\x00\x00\x00\x00\x01\x00\x01\x00\xef\x0f\x00\x00k";
     let source = page_full_of(b'v');
-    let value = &source[..4_079];
+    let value = part(&source, 0, 4_079);
     let mut page = page_full_of(0xff);
     put_item(&mut page, 7, 0, 9, b"k", value);
-    assert!(rt; same(&page[..17], front));
+    assert!(rt; same(part(&page, 0, 17), front));
     assert!(rt;
-        is_full_of(&page[17..], b'v'),
+        is_full_of(part(&page, 17, 4096), b'v'),
         "the value to the page's end"
     );
     assert!(rt; page_stamp(&page) == 9);
@@ -155,7 +169,7 @@ fn kind_and_lengths_decide_what_a_slot_reads_as(rt: HostRuntime) {
 #[test]
 fn an_item_stands_in_its_least_class(rt: HostRuntime) {
     let source = page_full_of(b'v');
-    let value = &source[..48];
+    let value = part(&source, 0, 48);
     let mut page = page_full_of(0);
     put_item(&mut page, 2, 128, 6, b"k", value);
     assert!(rt;
@@ -164,7 +178,7 @@ fn an_item_stands_in_its_least_class(rt: HostRuntime) {
     );
 
     // 48 bytes fit class 2, but class 1 holds them
-    let value = &source[..47];
+    let value = part(&source, 0, 47);
     put_fitting(&mut page, 2, 128, 7, b"k", value);
     assert!(rt; is_item(&read_fitting(&page, 2, 128), 7, b"k", value));
     assert!(rt; read_slot(&page, 2, 128) == Slot::Bad { stamp: 7 });
@@ -175,13 +189,13 @@ fn a_tombstone_keeps_its_link(rt: HostRuntime) {
     let bytes = b"\x03\x00\x00\x00\x00\x00\x00\x00\x02\x00\x00\x00\x05\x00\x00\x00";
     let mut page = page_full_of(0xff);
     put_tombstone(&mut page, 1, 128, 3, Some(4));
-    assert!(rt; same(&page[128..144], bytes));
-    assert!(rt; is_full_of(&page[144..192], 0));
-    assert!(rt; is_full_of(&page[..128], 0xff) && is_full_of(&page[192..], 0xff));
+    assert!(rt; same(part(&page, 128, 144), bytes));
+    assert!(rt; is_full_of(part(&page, 144, 192), 0));
+    assert!(rt; is_full_of(part(&page, 0, 128), 0xff) && is_full_of(part(&page, 192, 4096), 0xff));
     assert!(rt; link_of(&page, 1, 128) == Some(4));
     put_tombstone(&mut page, 8, 0, 4, None);
     assert!(rt;
-        is_full_of(&page[16..], 0),
+        is_full_of(part(&page, 16, 4096), 0),
         "the first page of a large slot"
     );
     assert!(rt; link_of(&page, 8, 0) == None);
@@ -202,8 +216,8 @@ fn head_with(place: usize, byte: u8) -> [u8; 4096] {
 #[test]
 fn a_head_page_names_its_worker(rt: HostRuntime) {
     let head = head_with(4096, 0);
-    assert!(rt; same(&head[..14], b"KVPAGED1\x01\x00\x02\x00\x03\x00"));
-    assert!(rt; is_full_of(&head[14..], 0));
+    assert!(rt; same(part(&head, 0, 14), b"KVPAGED1\x01\x00\x02\x00\x03\x00"));
+    assert!(rt; is_full_of(part(&head, 14, 4096), 0));
     assert!(rt;
         read_head(&head)
             == HeadRead::Head {
@@ -283,7 +297,7 @@ fn a_large_item_is_read_again_and_torn_by_another_stamp(rt: HostRuntime) -> Resu
     // 4,081 bytes: 4,080 in the first page, 1 in the second; 4,080 is 0x0ff0
     let front = b"\x09\x00\x00\x00\x00\x00\x00\x00\x01\x00\x01\x00\xf0\x0f\x00\x00k";
     let source = page_full_of(b'v');
-    let value = &source[..4_080];
+    let value = part(&source, 0, 4_080);
     let alloc = rt.alloc();
     let pages = pages_of(alloc, 9, b"k", value)
         .ok()
@@ -292,10 +306,10 @@ fn a_large_item_is_read_again_and_torn_by_another_stamp(rt: HostRuntime) -> Resu
     let [first, second] = pages.as_slice() else {
         return Err("2 pages".into());
     };
-    assert!(rt; same(&first[..17], front));
-    assert!(rt; is_full_of(&first[17..], b'v'));
-    assert!(rt; same(&second[..9], b"\x09\x00\x00\x00\x00\x00\x00\x00v"));
-    assert!(rt; is_full_of(&second[9..], 0));
+    assert!(rt; same(part(first, 0, 17), front));
+    assert!(rt; is_full_of(part(first, 17, 4096), b'v'));
+    assert!(rt; same(part(second, 0, 9), b"\x09\x00\x00\x00\x00\x00\x00\x00v"));
+    assert!(rt; is_full_of(part(second, 9, 4096), 0));
     assert!(rt; told_large(alloc, &[*first, *second], 8, b"k", value) == ('i', true));
 
     // another stamp in the second page, and then another header

@@ -1,5 +1,5 @@
 -- The first page has the key and the front of the value.
-use Rattle.std.proofs.Common.{◌≡◌, ◌++◌, ap, ◌∙◌, length, arith}
+use Rattle.std.proofs.Common.{◌++◌, ap, ◌∙◌, arith}
 use Rattle.kv_model.specs.Padding.{padded}
 use Rattle.kv_model.specs.SlotBytes.{item_header}
 use Rattle.kv_slot.proofs.LargeLemmas.{first_content}

@@ -1,5 +1,5 @@
 -- The part lies behind the key.
-use Rattle.std.proofs.Common.{◌≡◌, sym, ap, ◌∙◌, ◌+◌, ◌-◌, ◌*◌, take, arith}
+use Rattle.std.proofs.Common.{sym, ap, ◌∙◌, ◌+◌, ◌-◌, ◌*◌, take, arith}
 use Rattle.kv_slot.proofs.LargeLemmas.{drop-append-past}
 use Rattle.kv_slot.proofs.large.part_of.Goals as goal
 

@@ -1,5 +1,5 @@
 -- One more page is copied, as far as the value goes.
-use Rattle.std.proofs.Common.{◌≡◌, ◌<◌, length, take, drop, get_or, [], arith, length-drop}
+use Rattle.std.proofs.Common.{◌≡◌, length, take, drop, get_or, [], arith, length-drop}
 use Rattle.std.proofs.lemmas.List.{take_all}
 use Rattle.kv_slot.proofs.LargeLemmas.{copy_more}
 use Rattle.kv_slot.proofs.large.value_of.Goals as goal

@@ -1,5 +1,5 @@
 -- The part of the page that is filled is the slot.
-use Rattle.std.proofs.Common.{◌≡◌, ◌++◌, ap, ◌∙◌, length, rules, arith}
+use Rattle.std.proofs.Common.{◌++◌, ap, ◌∙◌, arith}
 use Rattle.std.proofs.lemmas.Grind.{common_steps}
 use Rattle.kv_model.specs.Padding.{padded}
 use Rattle.kv_model.specs.SlotBytes.{item_bytes, item_header}

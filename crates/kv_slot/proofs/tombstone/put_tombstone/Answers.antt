@@ -2,7 +2,7 @@
 use Rattle.std.proofs.Common.{◌≡◌, ◌+◌, ◌-◌, sym, ap, ◌∙◌, length, arith}
 use Rattle.std.proofs.lemmas.Grind.{common_steps}
 use Rattle.kv_model.specs.Padding.{padded}
-use Rattle.kv_model.specs.SlotBytes.{header_bytes, link_field, tombstone_bytes, tombstone_size}
+use Rattle.kv_model.specs.SlotBytes.{header_bytes, tombstone_bytes, tombstone_size}
 use Rattle.kv_slot.proofs.OverwriteLemmas.{part_put}
 use Rattle.kv_slot.proofs.tombstone.put_tombstone.Goals as goal
 

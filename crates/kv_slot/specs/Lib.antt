@@ -1,0 +1,4 @@
+pub mod Overwrite
+pub mod Views
+pub mod Heads
+pub mod Laws

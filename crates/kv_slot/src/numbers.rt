@@ -1,0 +1,31 @@
+ghost use Rattle.std.specs.Prelude.{◌≡◌, ◌≤◌, length, take};
+ghost use Rattle.std.specs.Int.{w16, w32, w64, from_le_bytes};
+
+/// The number in the first two bytes, the least first.
+pub fn u16_at(bytes: &[u8]) -> u16
+    requires { 2 ≤ length bytes.now }
+    ensures { result ≡ from_le_bytes w16 (take 2 bytes.now) }
+{
+    let bytes = &bytes[..2];
+    u16::from_le_bytes([bytes[0], bytes[1]])
+}
+
+/// The number in the first four bytes, the least first.
+pub fn u32_at(bytes: &[u8]) -> u32
+    requires { 4 ≤ length bytes.now }
+    ensures { result ≡ from_le_bytes w32 (take 4 bytes.now) }
+{
+    let bytes = &bytes[..4];
+    u32::from_le_bytes([bytes[0], bytes[1], bytes[2], bytes[3]])
+}
+
+/// The number in the first eight bytes, the least first.
+pub fn u64_at(bytes: &[u8]) -> u64
+    requires { 8 ≤ length bytes.now }
+    ensures { result ≡ from_le_bytes w64 (take 8 bytes.now) }
+{
+    let bytes = &bytes[..8];
+    u64::from_le_bytes([
+        bytes[0], bytes[1], bytes[2], bytes[3], bytes[4], bytes[5], bytes[6], bytes[7],
+    ])
+}

@@ -185,7 +185,8 @@ impl MemDisk {
 
     /// What a page reads as: 4,096 bytes, zeros where it was never written.
     pub fn page(&self, file: u8, page: u32) -> &[u8]
-        ensures { result.now ≡ image_of self.now file page }
+        ensures value { result.now ≡ image_of self.now file page }
+        ensures len { length result.now ≡ 4096 }
     {
         self.content(file, page)
     }

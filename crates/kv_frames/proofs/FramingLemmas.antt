@@ -4,8 +4,8 @@ use Rattle.std.specs.Int.{w32, to_le_bytes, from_le_bytes}
 use Rattle.std.proofs.lemmas.Bool.{cases_lt}
 use Rattle.std.proofs.lemmas.List.{take_at, drop_at, take-append-drop, drop-drop, length-append, length-take, length-drop, length-take-le, get_or-drop, get_or-take, get_or_past}
 use Rattle.std.proofs.lemmas.Nat.{le_bytes_4, from_le_bytes-to_le_bytes_4}
-use Rattle.kv_model.specs.Frames.{framed, stated_length, longest_content, IsPartial}
-use Rattle.kv_frames.specs.Cut.{BeginsWithContent, IsOutOfRange}
+use Rattle.kv_model.specs.Frames.{framed, stated_length, longest_content}
+use Rattle.kv_frames.specs.Cut.{BeginsWithContent}
 
 -- each element is a byte
 abbrev pub IsBytes : List ℕ → Type 0
@@ -22,42 +22,57 @@ IsBytes-take n bytes fits i =
     ]
 
 -- frames that begin equal bytes have one content, and one rest is left
-pub framed_once : (a b x y : List ℕ) → length a < 2 ^ 32 → length b < 2 ^ 32 → framed a ++ x ≡ framed b ++ y → (a ≡ b) × (x ≡ y)
+pub framed_once : (a b x y : List ℕ) → length a < 2 ^ 32 → length b < 2 ^ 32
+    → framed a ++ x ≡ framed b ++ y → (a ≡ b) × (x ≡ y)
 framed_once a b x y a_fits b_fits e =
-    let stated : from_le_bytes w32 (to_le_bytes w32 (length a)) ≡ from_le_bytes w32 (to_le_bytes w32 (length b)) = ap (λ (bytes : List ℕ). from_le_bytes w32 (take 4 bytes)) e in
-    let same : length a ≡ length b = sym (from_le_bytes-to_le_bytes_4 (length a) a_fits) ∙ stated ∙ from_le_bytes-to_le_bytes_4 (length b) b_fits in
+    let stated = ap (λ (bytes : List ℕ). from_le_bytes w32 (take 4 bytes)) e in
+    let a_is = from_le_bytes-to_le_bytes_4 (length a) a_fits in
+    let b_is = from_le_bytes-to_le_bytes_4 (length b) b_fits in
+    let same : length a ≡ length b = sym a_is ∙ stated ∙ b_is in
     let behind : a ++ x ≡ b ++ y = ap (λ (bytes : List ℕ). drop 4 bytes) e in
-    (sym (take_at a x (length a) refl) ∙ ap (λ (bytes : List ℕ). take (length a) bytes) behind ∙ take_at b y (length a) (sym same),
-    sym (drop_at a x (length a) refl) ∙ ap (λ (bytes : List ℕ). drop (length a) bytes) behind ∙ drop_at b y (length a) (sym same))
+    let fronts = ap (λ (bytes : List ℕ). take (length a) bytes) behind in
+    let rests = ap (λ (bytes : List ℕ). drop (length a) bytes) behind in (
+      sym (take_at a x (length a) refl) ∙ fronts ∙ take_at b y (length a) (sym same),
+      sym (drop_at a x (length a) refl) ∙ rests ∙ drop_at b y (length a) (sym same),
+    )
 
 -- a frame states the length of its content
-pub stated_length-framed : (content rest bytes : List ℕ) → length content < 2 ^ 32 → bytes ≡ framed content ++ rest → stated_length bytes ≡ length content
+pub stated_length-framed : (content rest bytes : List ℕ) → length content < 2 ^ 32
+    → bytes ≡ framed content ++ rest → stated_length bytes ≡ length content
 stated_length-framed content rest bytes fits parts =
     ap (λ (b : List ℕ). stated_length b) parts ∙ from_le_bytes-to_le_bytes_4 (length content) fits
 
 -- as many bytes as the length states are the content
-pub content_here : (bytes : List ℕ) (n : ℕ) → IsBytes bytes → n ≡ stated_length bytes → 1 ≤ n → n ≤ longest_content → 4 + n ≤ length bytes → BeginsWithContent bytes (take n (drop 4 bytes))
+pub content_here : (bytes : List ℕ) (n : ℕ) → IsBytes bytes → n ≡ stated_length bytes → 1 ≤ n
+    → n ≤ longest_content → 4 + n ≤ length bytes → BeginsWithContent bytes (take n (drop 4 bytes))
 content_here bytes n fits is some most long =
-    let size : length (take n (drop 4 bytes)) ≡ n = length-take-le n (drop 4 bytes) (omega (arith, length-drop 4 bytes)) in
-    let front : to_le_bytes w32 n ≡ take 4 bytes = le_bytes_4 (take 4 bytes) n (length-take-le 4 bytes (omega arith)) (IsBytes-take 4 bytes fits) is in
-    let behind : drop 4 bytes ≡ take n (drop 4 bytes) ++ drop (4 + n) bytes = sym (take-append-drop n (drop 4 bytes)) ∙ ap (λ (rest : List ℕ). take n (drop 4 bytes) ++ rest) (drop-drop n 4 bytes) in
-    let whole : bytes ≡ to_le_bytes w32 n ++ (take n (drop 4 bytes) ++ drop (4 + n) bytes) =
-        sym (take-append-drop 4 bytes) ∙ ap (λ (four : List ℕ). four ++ drop 4 bytes) (sym front) ∙ ap (λ (rest : List ℕ). to_le_bytes w32 n ++ rest) behind in
-    record {
-      some = omega arith;
-      most = omega arith;
-      parts = subst (λ (k : ℕ). bytes ≡ to_le_bytes w32 k ++ (take n (drop 4 bytes) ++ drop (4 + k) bytes)) (sym size) whole;
-    }
+    let rest = drop 4 bytes in
+    let size : length (take n rest) ≡ n = length-take-le n rest (omega (arith, length-drop 4 bytes)) in
+    let four : length (take 4 bytes) ≡ 4 = length-take-le 4 bytes (omega arith) in
+    let front : to_le_bytes w32 n ≡ take 4 bytes =
+    le_bytes_4 (take 4 bytes) n four (IsBytes-take 4 bytes fits) is in
+    let behind : rest ≡ take n rest ++ drop (4 + n) bytes =
+    sym (take-append-drop n rest) ∙ ap (λ (b : List ℕ). take n rest ++ b) (drop-drop n 4 bytes) in
+    let whole : bytes ≡ to_le_bytes w32 n ++ (take n rest ++ drop (4 + n) bytes) =
+    sym (take-append-drop 4 bytes) ∙ ap (λ (b : List ℕ). b ++ rest) (sym front)
+    ∙ ap (λ (b : List ℕ). to_le_bytes w32 n ++ b) behind in
+    let Parts : ℕ → Type 0 = λ k. bytes ≡ to_le_bytes w32 k ++ (take n rest ++ drop (4 + k) bytes) in
+    record { some = omega arith; most = omega arith; parts = subst Parts (sym size) whole }
 
 -- the content's elements are bytes where those of the whole are
-pub IsBytes-content : (bytes content : List ℕ) → IsBytes bytes → BeginsWithContent bytes content → IsBytes content
+pub IsBytes-content : (bytes content : List ℕ) → IsBytes bytes → BeginsWithContent bytes content
+    → IsBytes content
 IsBytes-content bytes content fits begins =
-    let is : take (length content) (drop 4 bytes) ≡ content =
-        ap (λ (b : List ℕ). take (length content) (drop 4 b)) begins.parts ∙ take_at content (drop (4 + length content) bytes) (length content) refl in
-    subst (λ (b : List ℕ). IsBytes b) is (IsBytes-take (length content) (drop 4 bytes) (IsBytes-drop 4 bytes fits))
+    let n = length content in
+    let there = ap (λ (b : List ℕ). take n (drop 4 b)) begins.parts in
+    let is : take n (drop 4 bytes) ≡ content = there ∙ take_at content (drop (4 + n) bytes) n refl in
+    subst (λ (b : List ℕ). IsBytes b) is (IsBytes-take n (drop 4 bytes) (IsBytes-drop 4 bytes fits))
 
 -- the content is all there
-pub content_within : (bytes content : List ℕ) → BeginsWithContent bytes content → 4 + length content ≤ length bytes
+pub content_within : (bytes content : List ℕ) → BeginsWithContent bytes content
+    → 4 + length content ≤ length bytes
 content_within bytes content begins =
-    let size : length (framed content ++ drop (4 + length content) bytes) ≡ 4 + (length content + length (drop (4 + length content) bytes)) = omega (arith, length-append content (drop (4 + length content) bytes)) in
+    let rest = drop (4 + length content) bytes in
+    let size : length (framed content ++ rest) ≡ 4 + (length content + length rest) =
+    omega (arith, length-append content rest) in
     omega (arith, ap (λ (b : List ℕ). length b) begins.parts, size)

@@ -1,3 +1,6 @@
 pub mod FramingLemmas
 pub mod CodeLemmas
 pub mod RequestLemmas
+pub mod ReplyLemmas
+pub mod StreamLemmas
+pub mod TranscriptLemmas

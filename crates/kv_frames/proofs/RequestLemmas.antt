@@ -1,72 +1,84 @@
 -- Lemmas on frames of requests.
-use Rattle.std.proofs.Common.{◌≡◌, ℕ, ◌+◌, ◌^◌, ◌<◌, ◌≤◌, Bool, true, false, cond, List, [], ◌∷◌, ◌++◌, length, take, drop, Option, Some, None, inl, inr, refl, sym, ap, subst, ◌∙◌, arith, eqb, leb}
+use Rattle.std.proofs.Common.{◌≡◌, ℕ, ◌+◌, ◌^◌, ◌<◌, ◌≤◌, true, cond, List, [], ◌∷◌, ◌++◌, length, take, drop, Some, None, inl, inr, refl, subst, ◌∙◌, arith, eqb, leb}
 use Rattle.std.proofs.lemmas.Bool.{le-leb, leb-true, eqb-true}
 use Rattle.std.proofs.lemmas.List.{take_at, drop_at, take-append-drop, length-append, length-take-le}
 use Rattle.kv_base.specs.declared.request.Request.{Request}
 use Rattle.kv_base.specs.declared.request.Request.TheVariants.{Put, Get}
-use Rattle.kv_model.specs.Frames.{framed, request_content, HasRequestBody, HasRequestFrame, request_frame, BeginsWithRequest, BeginsWithNoRequest, IsPartial, IsMalformed}
+use Rattle.kv_model.specs.Frames.{request_content, HasRequestBody, request_frame, BeginsWithRequest, BeginsWithNoRequest, IsPartial, IsMalformed}
 use Rattle.kv_frames.specs.Cut.{BeginsWithContent, IsOutOfRange}
-use Rattle.kv_frames.specs.Reading.{put_in, put_body_in, request_in}
+use Rattle.kv_frames.specs.Reading.{put_body_in, request_in}
 use Rattle.kv_frames.specs.Parse.{IsWhole}
 use Rattle.kv_frames.proofs.FramingLemmas.{IsBytes, stated_length-framed, content_within}
-use Rattle.kv_frames.proofs.CodeLemmas.{IsCode, Begins, chosen, begins_read, read_found, out_of_range_begins_none, partial_begins_none}
+use Rattle.kv_frames.proofs.CodeLemmas.{IsCode, Begins, chosen, begins_read, read_found, begins_once, out_of_range_begins_none, partial_begins_none}
 
 -- what a request's content is read as
-request_again : (request : Request) → HasRequestBody request → request_in (request_content request) ≡ Some request
+request_again : (request : Request) → HasRequestBody request
+    → request_in (request_content request) ≡ Some request
 request_again (Put key value) fits =
-    let long : leb (length key) (length (key ++ value)) ≡ true = le-leb _ _ (omega (arith, length-append key value)) in
+    let long : leb (length key) (length (key ++ value)) ≡ true =
+    le-leb _ _ (omega (arith, length-append key value)) in
     rw (long, take_at key value (length key) refl, drop_at key value (length key) refl) refl
 request_again (Get key) fits = refl
 
 -- what is read as a Put's body is its body
-put_back : (body : List ℕ) (request : Request) → IsBytes (1 ∷ body) → put_body_in body ≡ Some request → HasRequestBody request × (request_content request ≡ 1 ∷ body)
+put_back : (body : List ℕ) (request : Request) → IsBytes (1 ∷ body)
+    → put_body_in body ≡ Some request
+    → HasRequestBody request × (request_content request ≡ 1 ∷ body)
 put_back [] request fits e = absurd cc
 put_back (key_length ∷ rest) request fits e =
     elim (chosen (leb key_length (length rest)) (Some (Put (take key_length rest) (drop key_length rest))) None (Some request) e) [
       | inl p ↦
-        let is : Put (take key_length rest) (drop key_length rest) ≡ request = cc in
-        let size : length (take key_length rest) ≡ key_length = length-take-le key_length rest (leb-true _ _ p.0) in
-        let key_fits : key_length < 256 = fits 1 in
-        subst (λ (r : Request). HasRequestBody r × (request_content r ≡ 1 ∷ key_length ∷ rest)) is
-        (omega arith, rw (size, take-append-drop key_length rest) refl)
+          let is : Put (take key_length rest) (drop key_length rest) ≡ request = cc in
+          let size : length (take key_length rest) ≡ key_length =
+          length-take-le key_length rest (leb-true _ _ p.0) in
+          let key_fits : key_length < 256 = fits 1 in
+          subst (λ (r : Request). HasRequestBody r × (request_content r ≡ 1 ∷ key_length ∷ rest)) is
+          (omega arith, rw (size, take-append-drop key_length rest) refl)
       | inr p ↦ absurd cc
     ]
 
 -- what is read as a request is its content
-request_back : (bytes : List ℕ) (request : Request) → IsBytes bytes → request_in bytes ≡ Some request → HasRequestBody request × (request_content request ≡ bytes)
+request_back : (bytes : List ℕ) (request : Request) → IsBytes bytes
+    → request_in bytes ≡ Some request → HasRequestBody request × (request_content request ≡ bytes)
 request_back [] request fits e = absurd cc
 request_back (kind ∷ body) request fits e =
     elim (chosen (eqb kind 1) (put_body_in body) (cond (eqb kind 2) (Some (Get body)) None) (Some request) e) [
       | inl p ↦
-        let is : kind ≡ 1 = eqb-true kind 1 p.0 in
-        let fits' : IsBytes (1 ∷ body) = subst (λ (k : ℕ). IsBytes (k ∷ body)) is fits in
-        rw is (put_back body request fits' p.1)
+          let is : kind ≡ 1 = eqb-true kind 1 p.0 in
+          let fits' : IsBytes (1 ∷ body) = subst (λ (k : ℕ). IsBytes (k ∷ body)) is fits in
+          rw is (put_back body request fits' p.1)
       | inr p ↦
-        elim (chosen (eqb kind 2) (Some (Get body)) None (Some request) p.1) [
-          | inl q ↦
-            let is : Get body ≡ request = cc in
-            let kind_is : kind ≡ 2 = eqb-true kind 2 q.0 in
-            subst (λ (r : Request). HasRequestBody r × (request_content r ≡ kind ∷ body)) is (rw kind_is (tt, refl))
-          | inr q ↦ absurd cc
-        ]
+          elim (chosen (eqb kind 2) (Some (Get body)) None (Some request) p.1) [
+            | inl q ↦
+                let is : Get body ≡ request = cc in
+                let kind_is : kind ≡ 2 = eqb-true kind 2 q.0 in
+                subst (λ (r : Request). HasRequestBody r × (request_content r ≡ kind ∷ body)) is (rw kind_is (tt, refl))
+            | inr q ↦ absurd cc
+          ]
     ]
 
 -- a request's content has its kind at least
-request_some : (request : Request) → 1 ≤ length (request_content request)
+pub request_some : (request : Request) → 1 ≤ length (request_content request)
 request_some (Put key value) = omega arith
 request_some (Get key) = omega arith
 
 -- requests' contents are written and read
-pub request_code : IsCode Request request_content HasRequestBody request_in
+request_code : IsCode Request request_content HasRequestBody request_in
 request_code = record { again = request_again; back = request_back; some = request_some }
 
--- the same said of requests alone
-pub request_begins : (bytes : List ℕ) (request : Request) (rest : List ℕ) → BeginsWithRequest bytes request rest → Begins Request request_content HasRequestBody bytes request rest
-request_begins bytes request rest p = record { body = p.has.body; size = p.has.size; parts = p.parts }
+-- ---- what parsing answers
 
-pub request_is_whole : (bytes content : List ℕ) (request : Request) → IsBytes bytes → BeginsWithContent bytes content → Some request ≡ request_in content → IsWhole bytes request (4 + length content)
-request_is_whole bytes content request fits begins is =
-    let read = begins_read Request request_content HasRequestBody request_in request_code bytes content request fits begins is in
+request_begins : (bytes : List ℕ) (request : Request) (rest : List ℕ)
+    → BeginsWithRequest bytes request rest
+    → Begins Request request_content HasRequestBody bytes request rest
+request_begins bytes request rest p =
+    record { body = p.has.body; size = p.has.size; parts = p.parts }
+
+-- a content that is read is a whole request
+pub request_is_whole : {bytes content : List ℕ} {request : Request} → BeginsWithContent bytes content
+    → Some request ≡ request_in content → IsBytes bytes → IsWhole bytes request (4 + length content)
+request_is_whole {bytes = bytes} {content = content} {request = request} begins is fits =
+    let read = begins_read request_code bytes content request fits begins is in
     record {
       begins = record { has = record { body = read.0.body; size = read.0.size }; parts = read.0.parts };
       length_is = rw read.1 (omega arith);
@@ -75,30 +87,50 @@ request_is_whole bytes content request fits begins is =
       within = content_within bytes content begins;
     }
 
-pub request_is_found : (bytes content : List ℕ) (found request : Request) (rest : List ℕ) → BeginsWithContent bytes content → Some found ≡ request_in content → BeginsWithRequest bytes request rest → (found ≡ request) × (4 + length content ≡ length (request_frame request))
-request_is_found bytes content found request rest begins is p =
-    let read = read_found Request request_content HasRequestBody request_in request_code bytes content request rest begins (request_begins bytes request rest p) in
+-- no other request begins the bytes
+pub request_is_found : {bytes content : List ℕ} {found request : Request} {rest : List ℕ}
+    → BeginsWithContent bytes content → Some found ≡ request_in content → BeginsWithRequest bytes request rest
+    → (found ≡ request) × (4 + length content ≡ length (request_frame request))
+request_is_found {bytes = bytes} {content = content} {found = found} {request = request} {rest = rest} begins is p =
+    let read = read_found request_code bytes content request rest begins (request_begins bytes request rest p) in
     let both : Some found ≡ Some request = is ∙ read.0 in
     (cc, omega (arith, read.1))
 
 -- a content that is no request's makes the bytes malformed
-pub request_is_malformed : (bytes content : List ℕ) → BeginsWithContent bytes content → None ≡ request_in content → IsMalformed bytes
-request_is_malformed bytes content begins is =
+pub request_is_malformed : {bytes content : List ℕ} → BeginsWithContent bytes content
+    → None ≡ request_in content → IsMalformed bytes
+request_is_malformed {bytes = bytes} {content = content} begins is =
     let within = content_within bytes content begins in
-    let stated = stated_length-framed content (drop (4 + length content) bytes) bytes (omega (arith, begins.most)) begins.parts in
+    let fits : length content < 2 ^ 32 = omega (arith, begins.most) in
+    let stated = stated_length-framed content (drop (4 + length content) bytes) bytes fits begins.parts in
     record {
       length_there = omega arith;
       all_there = λ some most. omega (arith, within, stated);
       none = λ request rest p.
-        let read = read_found Request request_content HasRequestBody request_in request_code bytes content request rest begins (request_begins bytes request rest p) in
-        let both : None ≡ Some request = is ∙ read.0 in
-        absurd cc;
+          let read = read_found request_code bytes content request rest begins (request_begins bytes request rest p) in
+          let both : None ≡ Some request = is ∙ read.0 in
+          absurd cc;
     }
 
-pub request_out_of_range : (bytes : List ℕ) → IsOutOfRange bytes → BeginsWithNoRequest bytes
-request_out_of_range bytes out request rest p =
-    out_of_range_begins_none Request request_content HasRequestBody request_in request_code bytes request rest out (request_begins bytes request rest p)
+-- a length out of range makes the bytes malformed
+pub request_out_is_malformed : (bytes : List ℕ) → IsOutOfRange bytes → IsMalformed bytes
+request_out_is_malformed bytes out =
+    record {
+      length_there = out.length_there;
+      all_there = λ some most. absurd (omega (arith, out.out some));
+      none = λ request rest p.
+          out_of_range_begins_none request_code bytes request rest out (request_begins bytes request rest p);
+    }
 
+-- no request begins a part of a frame
 pub request_partial : (bytes : List ℕ) → IsPartial bytes → BeginsWithNoRequest bytes
 request_partial bytes partial request rest p =
-    partial_begins_none Request request_content HasRequestBody bytes request rest partial (request_begins bytes request rest p)
+    partial_begins_none bytes request rest partial (request_begins bytes request rest p)
+
+-- requests whose frames begin the same bytes are one
+pub request_once : (bytes : List ℕ) (request other : Request) (rest behind : List ℕ)
+    → BeginsWithRequest bytes request rest → BeginsWithRequest bytes other behind
+    → (request ≡ other) × (rest ≡ behind)
+request_once bytes request other rest behind p q =
+    begins_once request_code bytes request other rest behind
+    (request_begins bytes request rest p) (request_begins bytes other behind q)

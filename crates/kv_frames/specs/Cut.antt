@@ -1,5 +1,5 @@
 -- The content of the frame that bytes begin with.
-use Rattle.std.specs.Prelude.{◌≡◌, ℕ, ◌+◌, ◌≤◌, ◌<◌, List, ◌++◌, length, drop, ◌⊎◌}
+use Rattle.std.specs.Prelude.{◌≡◌, ℕ, ◌+◌, ◌≤◌, ◌<◌, List, ◌++◌, length, drop}
 use Rattle.kv_frames.specs.declared.cut.Front.{Front}
 use Rattle.kv_frames.specs.declared.cut.Front.TheVariants.{Whole, More, Malformed}
 use Rattle.kv_model.specs.Frames.{framed, stated_length, longest_content, IsPartial}

@@ -1,4 +1,3 @@
-
 ghost use Rattle.kv_frames.specs.Cut.{IsFront};
 
 /// The most bytes of kind and body.

@@ -7,13 +7,16 @@ ghost use Rattle.kv_frames.specs.Reading.{put_in, request_in};
 ghost use Rattle.kv_frames.specs.Parse.{IsParsed, IsFound};
 
 use crate::cut::{Front, cut_front};
+use crate::kind;
 use crate::view::{Parsed, RequestView};
 
-/// Parses the request that the bytes begin with, as the document of the protocol lays frames out. Takes no memory
-/// and copies nothing: the keys and values are slices of the bytes.
+/// Parses the request that the bytes begin with. Takes no memory and copies nothing: the key and the
+/// value are slices of the bytes. A key of a wrong length or an item that is too large is a whole
+/// request here; the session refuses it.
 pub fn parse_request<'a>(bytes: &'a [u8]) -> Parsed<'a>
     ensures cases { IsParsed result bytes.now }
-    ensures whole { (request : Request) (rest : List ℕ) → BeginsWithRequest bytes.now request rest → IsFound result request }
+    ensures whole { (request : Request) (rest : List ℕ) → BeginsWithRequest bytes.now request rest
+        → IsFound result request }
     ensures more { IsPartial bytes.now → result ≡ Parsed.More }
     ensures malformed { IsMalformed bytes.now → result ≡ Parsed.Malformed }
 {
@@ -35,8 +38,8 @@ fn view_request(content: &[u8]) -> Option<RequestView<'_>>
     ensures { option_map request_of result ≡ request_in content.now }
 {
     match content {
-        [1, key_length, rest @ ..] => view_put(*key_length as usize, rest),
-        [2, key @ ..] => Some(RequestView::Get { key }),
+        [kind::PUT, key_length, rest @ ..] => view_put(*key_length as usize, rest),
+        [kind::GET, key @ ..] => Some(RequestView::Get { key }),
         _ => None,
     }
 }

@@ -1,10 +1,13 @@
 ghost use Rattle.std.specs.Prelude.{◌≡◌, ◌+◌, ◌≤◌, ◌++◌, length, OnOk, IsOk, vec_capacity};
-ghost use Rattle.kv_model.specs.Frames.{framed, longest_content, HasRequestFrame, request_frame, HasReplyFrame, reply_frame};
+ghost use Rattle.kv_model.specs.Frames.{framed, longest_content};
+ghost use Rattle.kv_model.specs.Frames.{HasRequestFrame, request_frame, HasReplyFrame, reply_frame};
 
+use crate::kind;
 use kv_base::{NoMemory, Reply, Request};
 
-/// Writes the reply's frame: `out` then holds it and nothing else, whatever it held. The one error is want of
-/// memory, and then `out` holds anything. Takes no memory where the capacity of `out` holds the frame.
+/// Writes the reply's frame: `out` then holds it and nothing else, whatever it held. The one error is
+/// want of memory, and then `out` holds anything. Takes no memory where the capacity of `out` holds
+/// the frame, which is 66,004 bytes at most.
 pub fn put_reply(reply: &Reply, out: &mut Vec<u8>) -> Result<(), NoMemory>
     requires { HasReplyFrame reply.now }
     ensures ok { OnOk result (out.new.items ≡ reply_frame reply.now) }
@@ -12,19 +15,24 @@ pub fn put_reply(reply: &Reply, out: &mut Vec<u8>) -> Result<(), NoMemory>
     ensures capacity { vec_capacity out.old ≤ vec_capacity out.new }
 {
     match reply {
-        Reply::Stored { stamp } => put_frame(&[0x81], &stamp.to_le_bytes(), &[], out),
+        Reply::Stored { stamp } => put_frame(&[kind::STORED], &stamp.to_le_bytes(), &[], out),
         Reply::Found { stamp, value } => {
-            put_frame(&[0x82], &stamp.to_le_bytes(), value.as_slice(), out)
+            put_frame(&[kind::FOUND], &stamp.to_le_bytes(), value.as_slice(), out)
         }
-        Reply::Missing { stamp } => put_frame(&[0x83], &stamp.to_le_bytes(), &[], out),
-        Reply::BadKey => put_frame(&[0xE1], &[], &[], out),
-        Reply::TooLarge => put_frame(&[0xE2], &[], &[], out),
-        Reply::Full { class } => put_frame(&[0xE3, *class], &[], &[], out),
-        Reply::NoMemory => put_frame(&[0xE4], &[], &[], out),
-        Reply::DiskFault => put_frame(&[0xE5], &[], &[], out),
-        Reply::Unsure { stamp } => put_frame(&[0xE6], &stamp.to_le_bytes(), &[], out),
-        Reply::Closed => put_frame(&[0xE7], &[], &[], out),
-        Reply::Malformed { offset } => put_frame(&[0xE9], &offset.to_le_bytes(), &[], out),
+        Reply::Missing { stamp } => put_frame(&[kind::MISSING], &stamp.to_le_bytes(), &[], out),
+        Reply::BadKey => put_frame(&[kind::BAD_KEY], &[], &[], out),
+        Reply::TooLarge => put_frame(&[kind::TOO_LARGE], &[], &[], out),
+        Reply::Full { class } => put_frame(&[kind::FULL, *class], &[], &[], out),
+        Reply::NoMemory => put_frame(&[kind::NO_MEMORY], &[], &[], out),
+        Reply::DiskFault => put_frame(&[kind::DISK_FAULT], &[], &[], out),
+        Reply::Unsure { stamp } => put_frame(&[kind::UNSURE], &stamp.to_le_bytes(), &[], out),
+        Reply::Closed => put_frame(&[kind::CLOSED], &[], &[], out),
+        Reply::Malformed { offset } => put_frame(
+            &[kind::MALFORMED],
+            &offset.to_le_bytes(),
+            &[],
+            out,
+        ),
     }
 }
 
@@ -37,9 +45,14 @@ pub fn put_request(request: &Request, out: &mut Vec<u8>) -> Result<(), NoMemory>
 {
     match request {
         Request::Put { key, value } => {
-            put_frame(&[0x01, key.len() as u8], key.as_slice(), value.as_slice(), out)
+            put_frame(
+                &[kind::PUT, key.len() as u8],
+                key.as_slice(),
+                value.as_slice(),
+                out,
+            )
         }
-        Request::Get { key } => put_frame(&[0x02], &[], key.as_slice(), out),
+        Request::Get { key } => put_frame(&[kind::GET], &[], key.as_slice(), out),
     }
 }
 
@@ -47,7 +60,8 @@ pub fn put_request(request: &Request, out: &mut Vec<u8>) -> Result<(), NoMemory>
 fn put_frame(head: &[u8], first: &[u8], second: &[u8], out: &mut Vec<u8>) -> Result<(), NoMemory>
     requires { length head.now + length first.now + length second.now ≤ longest_content }
     ensures ok { OnOk result (out.new.items ≡ framed (head.now ++ (first.now ++ second.now))) }
-    ensures room { 4 + (length head.now + length first.now + length second.now) ≤ vec_capacity out.old → IsOk result }
+    ensures room { 4 + (length head.now + length first.now + length second.now) ≤ vec_capacity out.old
+        → IsOk result }
     ensures capacity { vec_capacity out.old ≤ vec_capacity out.new }
 {
     let length = head.len() + first.len() + second.len();

@@ -1,14 +1,13 @@
 -- Lemmas that what is put is read again.
-use Rattle.std.proofs.Common.{◌≡◌, ℕ, ◌+◌, ◌-◌, ◌*◌, ◌^◌, ◌<◌, ◌≤◌, Bool, true, false, cond, eqb, leb, List, [], ◌∷◌, ◌++◌, length, take, drop, replicate, Option, None, Some, IfSome, refl, sym, ap, ◌∙◌, inl, inr, arith, append_assoc, length-append, le-add_right}
-use Rattle.std.specs.Int.{w16, w32, w64, from_le_bytes, to_le_bytes}
-use Rattle.std.specs.List.{flat_map, list_all}
-use Rattle.std.proofs.lemmas.Bool.{cases_lt, cond-true, cond-false, eq-eqb, le-leb, lt-leb, ne_eqb}
+use Rattle.std.proofs.Common.{◌≡◌, ℕ, ◌+◌, ◌-◌, ◌*◌, ◌^◌, ◌<◌, ◌≤◌, true, eqb, leb, List, ◌++◌, length, take, drop, Option, None, Some, IfSome, refl, ap, ◌∙◌, inl, inr, arith, append_assoc}
+use Rattle.std.specs.Int.{w32, from_le_bytes, to_le_bytes}
+use Rattle.std.proofs.lemmas.Bool.{cases_lt, cond-true, cond-false, eq-eqb, lt-leb, ne_eqb}
 use Rattle.std.proofs.lemmas.List.{take_at, drop_at}
-use Rattle.std.proofs.lemmas.Nat.{from_le_bytes-to_le_bytes_2, from_le_bytes-to_le_bytes_4, from_le_bytes-to_le_bytes_8, pow_pos}
+use Rattle.std.proofs.lemmas.Nat.{from_le_bytes-to_le_bytes_2, from_le_bytes-to_le_bytes_4, from_le_bytes-to_le_bytes_8}
 use Rattle.std.proofs.Math.Pow.{pow_mono}
-use Rattle.kv_model.specs.Layout.{Layout, class_of, room_of, pages_in_slot}
-use Rattle.kv_model.specs.SlotBytes.{header_bytes, item_header, item_bytes, link_field, tombstone_bytes}
-use Rattle.kv_model.specs.Slots.{Slot, Item, Tombstone, Torn, is_class, link_named, read_item, read_parts, read_small, read_large}
+use Rattle.kv_model.specs.Layout.{Layout, class_of, room_of}
+use Rattle.kv_model.specs.SlotBytes.{item_bytes, link_field, tombstone_bytes}
+use Rattle.kv_model.specs.Slots.{Item, Tombstone, is_class, link_named, read_item, read_small, read_large}
 use Rattle.kv_slot.specs.Laws.{ItemsReadAgain, TombstonesReadAgain, LargeTombstonesReadAgain}
 use Rattle.kv_slot.proofs.SlotLemmas.{class_holds, room_of_small}
 
@@ -16,13 +15,13 @@ use Rattle.kv_slot.proofs.SlotLemmas.{class_holds, room_of_small}
 pub room_limit : (class : ℕ) → class ≤ 11 → room_of class ≤ 65400
 room_limit class limit =
     elim (cases_lt class 8) [
-      inl small ↦
-        let size : 2 ^ (class + 5) ≤ 2 ^ 12 = pow_mono {i = class + 5} {j = 12} (omega arith) in
-        omega (arith, room_of_small class (omega arith), size)
-    | inr large ↦
-        let room : room_of class ≡ 4080 + 4088 * (2 ^ (class - 7) - 1) = cond-false (leb class 7) _ _ (lt-leb class 7 (omega arith)) in
-        let pages : 2 ^ (class - 7) ≤ 2 ^ 4 = pow_mono {i = class - 7} {j = 4} (omega arith) in
-        omega (arith, room, pages)
+      | inl small ↦
+          let size : 2 ^ (class + 5) ≤ 2 ^ 12 = pow_mono {i = class + 5} {j = 12} (omega arith) in
+          omega (arith, room_of_small class (omega arith), size)
+      | inr large ↦
+          let room : room_of class ≡ 4080 + 4088 * (2 ^ (class - 7) - 1) = cond-false (leb class 7) _ _ (lt-leb class 7 (omega arith)) in
+          let pages : 2 ^ (class - 7) ≤ 2 ^ 4 = pow_mono {i = class - 7} {j = 4} (omega arith) in
+          omega (arith, room, pages)
     ]
 
 -- an item of its class, from its fields and its content

@@ -1,7 +1,7 @@
 -- Lemmas on what the bytes of a slot read as.
-use Rattle.std.proofs.Common.{◌≡◌, ℕ, ◌+◌, ◌-◌, ◌≤◌, ◌≢◌, Bool, true, false, cond, eqb, leb, ◌&&◌, List, [], ◌∷◌, ◌++◌, length, take, drop, Option, None, Some, refl, sym, ap, ◌∙◌, inl, inr, ⊎_elim, arith, length-drop}
+use Rattle.std.proofs.Common.{◌≡◌, ℕ, ◌+◌, ◌-◌, ◌≤◌, Bool, true, false, cond, eqb, leb, List, [], ◌∷◌, ◌++◌, length, take, drop, Option, None, Some, refl, sym, ap, ◌∙◌, inl, inr, arith, length-drop}
 use Rattle.std.specs.List.{find, flat_map, list_all}
-use Rattle.std.proofs.lemmas.Bool.{and_parts, and_from, cases_Bool, cond-true, cond-false, eqb-true, eq-eqb, leb-true, le-leb, false_from_ne_true}
+use Rattle.std.proofs.lemmas.Bool.{cases_Bool, cond-true, cond-false, eqb-true, eq-eqb, leb-true, le-leb, false_from_ne_true}
 use Rattle.std.proofs.lemmas.List.{length-take-le}
 use Rattle.std.proofs.lemmas.Nat.{pow-add, pow_pos}
 use Rattle.std.proofs.lemmas.Option.{none-some}
@@ -20,8 +20,8 @@ find_passes : (test : ℕ → Bool) (xs : List ℕ) (x : ℕ) → find test xs �
 find_passes test [] x found = absurd (none-some x found)
 find_passes test (y ∷ ys) x found =
     elim (cases_Bool (test y)) [
-      inl pass ↦ let same : y ≡ x = cc (cond-true (test y) (Some y) (find test ys) pass) in ap test (sym same) ∙ pass
-    | inr fail ↦ find_passes test ys x (sym (cond-false (test y) (Some y) (find test ys) fail) ∙ found)
+      | inl pass ↦ let same : y ≡ x = cc (cond-true (test y) (Some y) (find test ys) pass) in ap test (sym same) ∙ pass
+      | inr fail ↦ find_passes test ys x (sym (cond-false (test y) (Some y) (find test ys) fail) ∙ found)
     ]
 
 -- a class that an item has may have its key and has room for it
@@ -32,8 +32,8 @@ pub record Holds (layout : Layout) (key_length value_length class : ℕ) : Type 
 pub class_holds : (layout : Layout) (key_length value_length class : ℕ) → class_of layout key_length value_length ≡ Some class → Holds layout key_length value_length class
 class_holds layout key_length value_length class of =
     elim (cases_Bool (is_key_length layout key_length)) [
-      inl pass ↦ record { key = pass; room = leb-true (key_length + value_length) (room_of class) (find_passes (λ other. leb (key_length + value_length) (room_of other)) layout.classes class (sym (cond-true (is_key_length layout key_length) _ None pass) ∙ of)) }
-    | inr fail ↦ absurd (none-some class (sym (cond-false (is_key_length layout key_length) _ None fail) ∙ of))
+      | inl pass ↦ record { key = pass; room = leb-true (key_length + value_length) (room_of class) (find_passes (λ other. leb (key_length + value_length) (room_of other)) layout.classes class (sym (cond-true (is_key_length layout key_length) _ None pass) ∙ of)) }
+      | inr fail ↦ absurd (none-some class (sym (cond-false (is_key_length layout key_length) _ None fail) ∙ of))
     ]
 
 -- the class that is there
@@ -50,19 +50,19 @@ only_class_of key_length value_length class key room =
 item_of_least : (class stamp key_length value_length : ℕ) (content : List ℕ) → length content ≡ room_of class → read_item all_classes class stamp key_length value_length content true ≡ of_least_class class (read_item (only_class class) class stamp key_length value_length content true)
 item_of_least class stamp key_length value_length content room =
     elim (cases_Bool (is_class (class_of (only_class class) key_length value_length) class)) [
-      inl pass ↦
-        let holds = class_holds (only_class class) key_length value_length class (is_class_some _ class pass) in
-        let key_is : length (take key_length content) ≡ key_length = length-take-le key_length content (omega (arith, holds.room)) in
-        let value_is : length (take value_length (drop key_length content)) ≡ value_length = length-take-le value_length (drop key_length content) (omega (arith, holds.room, length-drop key_length content)) in
-        sym (ap (of_least_class class) (cond-true (is_class (class_of (only_class class) key_length value_length) class) _ (Bad stamp) pass)
-        ∙ ap (λ n. cond (is_class (class_of all_classes n (length (take value_length (drop key_length content)))) class) (Item stamp (take key_length content) (take value_length (drop key_length content))) (Bad stamp)) key_is
-        ∙ ap (λ n. cond (is_class (class_of all_classes key_length n) class) (Item stamp (take key_length content) (take value_length (drop key_length content))) (Bad stamp)) value_is)
-    | inr fail ↦
-        let none : is_class (class_of all_classes key_length value_length) class ≡ false = false_from_ne_true _ (λ is.
-            let holds = class_holds all_classes key_length value_length class (is_class_some _ class is) in
-            cc (only_class_of key_length value_length class holds.key holds.room)) in
-        cond-false (is_class (class_of all_classes key_length value_length) class) _ (Bad stamp) none
-        ∙ sym (ap (of_least_class class) (cond-false (is_class (class_of (only_class class) key_length value_length) class) _ (Bad stamp) fail))
+      | inl pass ↦
+          let holds = class_holds (only_class class) key_length value_length class (is_class_some _ class pass) in
+          let key_is : length (take key_length content) ≡ key_length = length-take-le key_length content (omega (arith, holds.room)) in
+          let value_is : length (take value_length (drop key_length content)) ≡ value_length = length-take-le value_length (drop key_length content) (omega (arith, holds.room, length-drop key_length content)) in
+          sym (ap (of_least_class class) (cond-true (is_class (class_of (only_class class) key_length value_length) class) _ (Bad stamp) pass)
+          ∙ ap (λ n. cond (is_class (class_of all_classes n (length (take value_length (drop key_length content)))) class) (Item stamp (take key_length content) (take value_length (drop key_length content))) (Bad stamp)) key_is
+          ∙ ap (λ n. cond (is_class (class_of all_classes key_length n) class) (Item stamp (take key_length content) (take value_length (drop key_length content))) (Bad stamp)) value_is)
+      | inr fail ↦
+          let none : is_class (class_of all_classes key_length value_length) class ≡ false = false_from_ne_true _ (λ is.
+          let holds = class_holds all_classes key_length value_length class (is_class_some _ class is) in
+          cc (only_class_of key_length value_length class holds.key holds.room)) in
+          cond-false (is_class (class_of all_classes key_length value_length) class) _ (Bad stamp) none
+          ∙ sym (ap (of_least_class class) (cond-false (is_class (class_of (only_class class) key_length value_length) class) _ (Bad stamp) fail))
     ]
 
 -- a choice between two readings

@@ -2,6 +2,8 @@
 use Rattle.std.specs.Prelude.{ℕ, length, if◌then◌else◌}
 use Rattle.kv_slot.specs.declared.small.Slot as answer
 use Rattle.kv_slot.specs.declared.small.Slot.TheVariants as answers
+use Rattle.kv_slot.specs.declared.large.Large as large_answer
+use Rattle.kv_slot.specs.declared.large.Large.TheVariants as large_answers
 use Rattle.kv_model.specs.Layout.{all_classes, class_of}
 use Rattle.kv_model.specs.Slots.{Slot, Never, Item, Tombstone, Bad, Torn, is_class}
 
@@ -20,3 +22,19 @@ of_least_class class (Item stamp key value) =
 of_least_class class (Tombstone stamp link) = Tombstone stamp link
 of_least_class class (Bad stamp) = Bad stamp
 of_least_class class (Torn stamp) = Torn stamp
+
+-- what stands in the slot of several pages, by the answer
+abbrev pub what_stands_large : large_answer.Large → Slot
+what_stands_large (large_answers.Never stamp) = Never stamp
+what_stands_large (large_answers.Item stamp key value) = Item stamp key value
+what_stands_large (large_answers.Tombstone stamp link) = Tombstone stamp link
+what_stands_large (large_answers.Bad stamp) = Bad stamp
+what_stands_large (large_answers.Torn stamp) = Torn stamp
+
+-- an item stands in the slot
+abbrev pub IsItem : Slot → Type 0
+IsItem (Never stamp) = ⊥
+IsItem (Item stamp key value) = Unit {0}
+IsItem (Tombstone stamp link) = ⊥
+IsItem (Bad stamp) = ⊥
+IsItem (Torn stamp) = ⊥

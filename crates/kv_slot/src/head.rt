@@ -34,7 +34,8 @@ pub enum HeadRead {
 pub fn put_head(page: &mut [u8; 4096], worker: u32, workers: u32)
     requires below { worker < workers }
     requires limit { workers ≤ 16 }
-    ensures { page.new ≡ head_page worker workers }
+    ensures bytes { page.new ≡ head_page worker workers }
+    ensures size { length page.new ≡ 4096 }
 {
     fill_head(page, worker, workers);
 }

@@ -2,13 +2,12 @@ ghost use Rattle.std.specs.Prelude.{◌≡◌, ℕ, ◌+◌, ◌-◌, ◌^◌, �
 ghost use Rattle.kv_model.specs.Layout.{all_classes, class_of, only_class, room_of, slot_size};
 ghost use Rattle.kv_model.specs.Slots.{read_small, read_item};
 ghost use Rattle.kv_model.specs.Padding.{padded};
-ghost use Rattle.kv_model.specs.SlotBytes.{item_header, item_bytes};
+ghost use Rattle.kv_model.specs.SlotBytes.{header_bytes, item_bytes};
 ghost use Rattle.kv_slot.specs.Overwrite.{overwritten};
 ghost use Rattle.kv_slot.specs.Views.{what_stands, of_least_class};
 
 use crate::class::class_of;
-use crate::header::{HEADER, ITEM, NEVER, TOMBSTONE, put_header};
-use crate::numbers::{u16_at, u32_at, u64_at};
+use crate::header::{HEADER, ITEM, NEVER, TOMBSTONE, put_header, read_header};
 use crate::overwrite::{clear_from, put_at};
 use crate::tombstone::link_in;
 
@@ -83,17 +82,18 @@ fn read_bytes<'a>(slot: &'a [u8], class: u8) -> Slot<'a>
     ensures { what_stands result ≡ read_small (only_class class) class slot.now }
 {
     let (header, content) = slot.split_at(HEADER);
-    let stamp = u64_at(header);
-    match u16_at(&header[8..]) {
+    let header = read_header(header);
+    let stamp = header.stamp;
+    match header.kind {
         NEVER => Slot::Never { stamp },
         ITEM => {
-            let key_len = u16_at(&header[10..]) as usize;
-            let value_len = u32_at(&header[12..]) as usize;
+            let key_len = header.key_len as usize;
+            let value_len = header.last as usize;
             item_of(class, stamp, key_len, value_len, content)
         }
         TOMBSTONE => Slot::Tombstone {
             stamp,
-            link: link_in(u32_at(&header[12..])),
+            link: link_in(header.last),
         },
         _ => Slot::Bad { stamp },
     }
@@ -156,39 +156,42 @@ pub fn put_fitting(
     requires within { offset + slot_size class ≤ 4096 }
     requires key { (1 ≤ length key.now) × (length key.now ≤ 255) }
     requires fits { length key.now + length value.now ≤ room_of class }
-    ensures { page.new ≡ overwritten page.old offset (item_bytes class stamp key.now value.now) }
+    ensures bytes { page.new ≡ overwritten page.old offset (item_bytes class stamp key.now value.now) }
+    ensures size { length page.new ≡ 4096 }
 {
     let begin = offset as usize;
     let size = slot_size(class);
-    fill_item(&mut page[begin..begin + size], stamp, key, value);
+    fill_item(
+        &mut page[begin..begin + size],
+        stamp,
+        key,
+        value.len() as u32,
+        value,
+    );
 }
 
 /// Writes an item of this class, 1 to 7, into its slot at the offset. The rest of the slot is zeros, and
 /// all bytes outside it stay.
-pub fn put_item(
-    page: &mut [u8; 4096],
-    class: u8,
-    offset: u32,
-    stamp: u64,
-    key: &[u8],
-    value: &[u8],
-)
+pub fn put_item(page: &mut [u8; 4096], class: u8, offset: u32, stamp: u64, key: &[u8], value: &[u8])
     requires class { (1 ≤ class) × (class ≤ 7) }
     requires within { offset + slot_size class ≤ 4096 }
     requires item { class_of all_classes (length key.now) (length value.now) ≡ Some class }
-    ensures { page.new ≡ overwritten page.old offset (item_bytes class stamp key.now value.now) }
+    ensures bytes { page.new ≡ overwritten page.old offset (item_bytes class stamp key.now value.now) }
+    ensures size { length page.new ≡ 4096 }
 {
     put_fitting(page, class, offset, stamp, key, value);
 }
 
-fn fill_item(slot: &mut [u8], stamp: u64, key: &[u8], value: &[u8])
+/// Fills the slot, or its first page, with an item's header, its key and the front of its value, and then
+/// with zeros.
+pub fn fill_item(slot: &mut [u8], stamp: u64, key: &[u8], value_len: u32, front: &[u8])
     requires key { length key.now ≤ 255 }
-    requires fits { length key.now + length value.now + 16 ≤ length slot.old }
+    requires fits { length key.now + length front.now + 16 ≤ length slot.old }
     requires slot { length slot.old ≤ 4096 }
-    ensures { slot.new ≡ padded (length slot.old) (item_header stamp key.now value.now ++ key.now ++ value.now) }
+    ensures { slot.new ≡ padded (length slot.old) (header_bytes stamp 1 (length key.now) value_len ++ key.now ++ front.now) }
 {
-    put_header(slot, stamp, ITEM, key.len() as u16, value.len() as u32);
+    put_header(slot, stamp, ITEM, key.len() as u16, value_len);
     put_at(slot, HEADER, key);
-    put_at(slot, HEADER + key.len(), value);
-    clear_from(slot, HEADER + key.len() + value.len());
+    put_at(slot, HEADER + key.len(), front);
+    clear_from(slot, HEADER + key.len() + front.len());
 }

@@ -16,18 +16,13 @@ const PAGE: usize = 4_096;
 /// Writes a tombstone into the slot of this class, 1 to 11, at the offset, which is 0 from class 8 on. The
 /// rest of the slot is zeros, and all bytes outside it stay; of a slot larger than a page, this is its
 /// first page alone. A link is below 2^24.
-pub fn put_tombstone(
-    page: &mut [u8; 4096],
-    class: u8,
-    offset: u32,
-    stamp: u64,
-    link: Option<u32>,
-)
+pub fn put_tombstone(page: &mut [u8; 4096], class: u8, offset: u32, stamp: u64, link: Option<u32>)
     requires class { (1 ≤ class) × (class ≤ 11) }
     requires small { class ≤ 7 → offset + slot_size class ≤ 4096 }
     requires large { 8 ≤ class → offset ≡ 0 }
     requires link { ForSome link (λ slot. slot < 2 ^ 24) }
-    ensures { page.new ≡ overwritten page.old offset (tombstone_bytes class stamp link) }
+    ensures bytes { page.new ≡ overwritten page.old offset (tombstone_bytes class stamp link) }
+    ensures size { length page.new ≡ 4096 }
 {
     let begin = offset as usize;
     let size = tombstone_size(class);

@@ -1,13 +1,15 @@
 -- The length is the number in the first four bytes, and so many bytes follow.
-use Rattle.std.proofs.Common.{◌≡◌, length, drop, ap, ◌∙◌, arith}
+use Rattle.std.proofs.Common.{◌≡◌, drop, ap, ◌∙◌, arith}
 use Rattle.std.specs.Int.{w32, from_le_bytes}
-use Rattle.std.proofs.lemmas.List.{length-drop}
 use Rattle.kv_model.specs.Frames.{stated_length}
 use Rattle.kv_frames.proofs.FramingLemmas.{content_here}
 use Rattle.kv_frames.proofs.cut.cut_front.Goals as goal
 
 pub returns : goal.returns
 returns c =
+    let n = c.from_le_bytes-length.result in
     let rest_is : c.in-Some.rest.now ≡ drop 4 c.args.bytes.now = c.in-Some.ensures.cases.1 in
-    let is : c.from_le_bytes-length.result ≡ stated_length c.args.bytes.now = c.from_le_bytes-length.ensures ∙ ap (λ four. from_le_bytes w32 four) c.in-Some.ensures.cases.0 in
-    rw rest_is (content_here c.args.bytes.now c.from_le_bytes-length.result (λ i. omega (arith, c.type_inv.bytes i)) is (omega arith) (omega arith) (omega (arith, c.in-Some.ensures.cases.2)))
+    let front = ap (λ four. from_le_bytes w32 four) c.in-Some.ensures.cases.0 in
+    let is : n ≡ stated_length c.args.bytes.now = c.from_le_bytes-length.ensures ∙ front in
+    rw rest_is (content_here c.args.bytes.now n (λ i. omega (arith, c.type_inv.bytes i)) is
+    (omega arith) (omega arith) (omega (arith, c.in-Some.ensures.cases.2)))

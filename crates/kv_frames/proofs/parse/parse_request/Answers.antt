@@ -5,20 +5,19 @@ use Rattle.kv_frames.proofs.parse.parse_request.Goals as goal
 
 pub returns-in-Some-clause-cases : goal.returns-in-Some-clause-cases
 returns-in-Some-clause-cases c =
-    request_is_whole c.args.bytes.now c.in-Whole.content.now _ (λ i. omega (arith, c.type_inv.bytes i)) c.in-Whole.ensures c.in-Some.ensures
+    request_is_whole c.in-Whole.ensures c.in-Some.ensures (λ i. omega (arith, c.type_inv.bytes i))
 
 pub returns-in-Some-clause-whole : goal.returns-in-Some-clause-whole
 returns-in-Some-clause-whole c =
-    λ request rest p. request_is_found c.args.bytes.now c.in-Whole.content.now _ request rest c.in-Whole.ensures c.in-Some.ensures p
+    λ request rest p. request_is_found c.in-Whole.ensures c.in-Some.ensures p
 
 pub returns-in-Some-clause-malformed : goal.returns-in-Some-clause-malformed
-returns-in-Some-clause-malformed c =
-    let whole = request_is_whole c.args.bytes.now c.in-Whole.content.now _ (λ i. omega (arith, c.type_inv.bytes i)) c.in-Whole.ensures c.in-Some.ensures in
-    λ malformed. absurd (malformed.none _ _ whole.begins)
+returns-in-Some-clause-malformed c = λ malformed.
+    absurd (malformed.none _ _ (returns-in-Some-clause-cases c).begins)
 
 pub returns-in-None-clause-cases : goal.returns-in-None-clause-cases
-returns-in-None-clause-cases c = request_is_malformed c.args.bytes.now c.in-Whole.content.now c.in-Whole.ensures c.in-None.ensures
+returns-in-None-clause-cases c = request_is_malformed c.in-Whole.ensures c.in-None.ensures
 
 pub returns-in-None-clause-whole : goal.returns-in-None-clause-whole
-returns-in-None-clause-whole c =
-    λ request rest p. absurd ((request_is_malformed c.args.bytes.now c.in-Whole.content.now c.in-Whole.ensures c.in-None.ensures).none request rest p)
+returns-in-None-clause-whole c = λ request rest p.
+    absurd ((returns-in-None-clause-cases c).none request rest p)

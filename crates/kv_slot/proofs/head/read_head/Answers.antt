@@ -1,5 +1,5 @@
 -- A head has the fields that are read.
-use Rattle.std.proofs.Common.{◌≡◌, ℕ, ◌∙◌, IsTrue, sym, false, true}
+use Rattle.std.proofs.Common.{ℕ, ◌∙◌, sym}
 use Rattle.std.proofs.lemmas.Bool.{false≢true}
 use Rattle.kv_model.specs.Head.{IsHead}
 use Rattle.kv_slot.proofs.HeadLemmas.{head_says, no_head, zeros_no_head}

@@ -1,5 +1,5 @@
 -- What reads with its class alone reads with all, but for items of a lesser class.
-use Rattle.std.proofs.Common.{◌≡◌, ◌≤◌, ◌-◌, ap, sym, ◌∙◌, length, take, drop, arith, length-drop}
+use Rattle.std.proofs.Common.{◌≤◌, ap, sym, ◌∙◌, length, take, drop, arith, length-drop}
 use Rattle.std.proofs.lemmas.List.{length-take-le}
 use Rattle.kv_model.specs.Layout.{slot_size}
 use Rattle.kv_slot.proofs.SlotLemmas.{read_of_least, room_of_small}

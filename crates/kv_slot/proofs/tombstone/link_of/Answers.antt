@@ -1,5 +1,5 @@
 -- The link is read from the slot's header.
-use Rattle.std.proofs.Common.{◌≡◌, sym, ap, ◌∙◌, take, drop, arith}
+use Rattle.std.proofs.Common.{sym, ap, ◌∙◌, take, drop, arith}
 use Rattle.std.proofs.lemmas.List.{take-take}
 use Rattle.kv_model.specs.Layout.{slot_size}
 use Rattle.kv_model.specs.Slots.{link_named, last_field}

@@ -1,0 +1,27 @@
+//! The kind bytes of frames.
+
+pub const PUT: u8 = 0x01;
+
+pub const GET: u8 = 0x02;
+
+pub const STORED: u8 = 0x81;
+
+pub const FOUND: u8 = 0x82;
+
+pub const MISSING: u8 = 0x83;
+
+pub const BAD_KEY: u8 = 0xE1;
+
+pub const TOO_LARGE: u8 = 0xE2;
+
+pub const FULL: u8 = 0xE3;
+
+pub const NO_MEMORY: u8 = 0xE4;
+
+pub const DISK_FAULT: u8 = 0xE5;
+
+pub const UNSURE: u8 = 0xE6;
+
+pub const CLOSED: u8 = 0xE7;
+
+pub const MALFORMED: u8 = 0xE9;

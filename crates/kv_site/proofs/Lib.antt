@@ -1,1 +1,2 @@
 mod ShelfLemmas
+mod MemorySiteLemmas

@@ -1,7 +1,7 @@
 -- Lemmas on places in a list, the first of which counts.
-use Rattle.std.proofs.Common.{◌≡◌, ◌≢◌, ℕ, ◌<◌, ◌≤◌, ◌+◌, zero, suc, Bool, true, false, ◌&&◌, ◌⊎◌, List, [], ◌∷◌, ◌++◌, Option, Some, None, length, get_or, set, map, take, drop, inl, inr, refl, ap, sym, ◌∙◌, subst, arith, cond, eqb}
+use Rattle.std.proofs.Common.{◌≡◌, ◌≢◌, ℕ, ◌<◌, ◌+◌, zero, suc, Bool, true, false, ◌&&◌, List, [], ◌∷◌, ◌++◌, Option, Some, None, length, get_or, set, map, take, drop, inl, inr, refl, ap, sym, ◌∙◌, subst, arith, cond, eqb}
 use Rattle.std.specs.Prelude.{⊤}
-use Rattle.std.specs.List.{position, position_or_len, position_from}
+use Rattle.std.specs.List.{position, position_from}
 use Rattle.std.specs.Str.{bytes_eq}
 use Rattle.std.proofs.lemmas.Bool.{cond-true, cond-false, cases_Bool, cases_eq, and_parts, and_from, and_left, and_right, eqb-true, eq-eqb, ne_eqb, both_ways}
 use Rattle.std.proofs.lemmas.Iterator.Adapters.{position_from-zero}

@@ -1,3 +1,5 @@
 pub mod Held
 pub mod FileMarks
 pub mod Shelves
+pub mod MemorySite
+pub mod MemoryFields

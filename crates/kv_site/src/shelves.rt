@@ -36,9 +36,7 @@ impl<T: Drop> Shelves<T> {
     fn find_home(&self, number: u32) -> Option<usize>
         ensures { result ≡ position (is_home number) self.now.shelves.items }
     {
-        self.shelves
-            .iter()
-            .position(|shelf| shelf.is_home(number))
+        self.shelves.iter().position(|shelf| shelf.is_home(number))
     }
 
     /// What is held for this number in this folder.

@@ -1,4 +1,4 @@
-ghost use Rattle.std.specs.Prelude.{◌≡◌, ◌↔◌, Contains, IsTrue, IfOk, IsSome, IsOk, IfErr, Some, is_err, if◌then◌else◌};
+ghost use Rattle.std.specs.Prelude.{◌≡◌, ◌≤◌, ◌↔◌, Contains, IsTrue, IfOk, IsSome, IsOk, IfErr, Some, is_err, if◌then◌else◌};
 ghost use Rattle.kv_base.specs.Calls.{next_count};
 
 use crate::TakeFault;
@@ -30,6 +30,7 @@ impl Tally {
         ensures ok { IfOk result (λ thing. taken ≡ Some thing) }
         ensures err { IsOk result ↔ IsSome taken }
         ensures fault { IfErr result (λ e. e ≡ TakeFault.Failed) }
+        ensures later { self.old.faults ≤ self.new.faults }
         ensures counted { self.new ≡ record self.old { faults = if is_err result then next_count self.old.faults else self.old.faults } }
     {
         match taken {

@@ -1,5 +1,5 @@
 -- One place more is noted.
-use Rattle.std.proofs.Common.{◌≡◌, ◌++◌, ◌<◌, ◌+◌, ℕ, List, length, get_or, set, map, take, drop, ap, sym, ◌∙◌, subst, arith, add-one}
+use Rattle.std.proofs.Common.{◌≡◌, ◌++◌, List, get_or, map, take, drop, ap, ◌∙◌, arith, add-one}
 use Rattle.kv_site.specs.Shelves.{homed}
 use Rattle.kv_site.specs.declared.shelf.Shelf.{Shelf}
 use Rattle.kv_site.proofs.ShelfLemmas.{map-step}

@@ -1,7 +1,6 @@
 -- The first place of the number and folder is what counts.
-use Rattle.std.proofs.Common.{◌≡◌, ℕ, ◌<◌, List, Some, None, length, get_or, refl, ap, sym, ◌∙◌, subst, arith}
-use Rattle.std.specs.List.{position}
-use Rattle.kv_site.specs.Shelves.{is_at, is_home}
+use Rattle.std.proofs.Common.{sym, ◌∙◌}
+use Rattle.kv_site.specs.Shelves.{is_at}
 use Rattle.kv_site.proofs.ShelfLemmas.{is_first, none_pass, thing_at-first, thing_at-none}
 use Rattle.kv_site.proofs.shelves.Shelves.get.Goals as goal
 

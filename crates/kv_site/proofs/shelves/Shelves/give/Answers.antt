@@ -1,5 +1,5 @@
 -- The place from which the thing was taken is the first of its number and folder.
-use Rattle.std.proofs.Common.{◌≡◌, ℕ, ◌<◌, List, Some, None, length, get_or, refl, ap, sym, ◌∙◌, subst, arith}
+use Rattle.std.proofs.Common.{◌≡◌, ℕ, List, Some, None, sym, ◌∙◌, subst}
 use Rattle.std.specs.List.{position}
 use Rattle.kv_site.specs.Shelves.{is_at, is_home}
 use Rattle.kv_site.proofs.ShelfLemmas.{is_first, none_pass, home_of-first, home_of-none, is_at-home, first_passes, some_pass, gives-set, gives-none}

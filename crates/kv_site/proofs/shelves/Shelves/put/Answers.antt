@@ -1,7 +1,6 @@
 -- The first place of the number and folder gets the thing, or a new one behind the others.
-use Rattle.std.proofs.Common.{◌≡◌, ℕ, ◌<◌, false, List, Some, None, length, get_or, refl, ap, sym, ◌∙◌, subst, arith}
-use Rattle.std.specs.List.{position}
-use Rattle.kv_site.specs.Shelves.{is_at, is_home}
+use Rattle.std.proofs.Common.{false, Some, refl, sym, ◌∙◌}
+use Rattle.kv_site.specs.Shelves.{is_at}
 use Rattle.kv_site.proofs.ShelfLemmas.{is_first, none_pass, puts-set, puts-push}
 use Rattle.kv_site.proofs.shelves.Shelves.put.Goals as goal
 

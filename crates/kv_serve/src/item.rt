@@ -2,6 +2,7 @@ ghost use Rattle.std.specs.Prelude.{◌≡◌, ℕ, ◌+◌, ◌-◌, ◌^◌, �
 ghost use Rattle.kv_base.specs.Calls.{next_count};
 ghost use Rattle.kv_base.specs.Fault.{HasCause};
 ghost use Rattle.kv_base.specs.Image.{with_page};
+ghost use Rattle.kv_disk.specs.Disk.{Only};
 ghost use Rattle.kv_model.specs.Layout.{only_class};
 ghost use Rattle.kv_model.specs.Slots.{Item, read_small};
 ghost use Rattle.kv_model.specs.SlotBytes.{item_bytes};
@@ -25,6 +26,7 @@ pub fn write_item<D: Disk>(
     requires key { (1 ≤ length key.now) × (length key.now ≤ 255) }
     requires fits { length key.now + length value.now ≤ 4080 }
     ensures written { IsTrue D.tells → OnOk result (D.seen disk.new ≡ with_page (D.seen disk.old) 7 page (item_bytes 7 stamp key.now value.now)) }
+    ensures durable { OnOk result (Only (D.seen disk.new) (D.leaves disk.new (D.calls disk.new))) }
     ensures calls { OnOk result (D.calls disk.new ≡ next_count (next_count (D.calls disk.old))) }
     ensures cause { HasCause (D.faults disk.old) (D.faults disk.new) result }
 {

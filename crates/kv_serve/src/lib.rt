@@ -19,11 +19,13 @@ mod send;
 mod serve;
 mod serve_disk;
 mod session;
-mod sizes;
-mod store;
-mod top;
 #[cfg(test)]
 mod session_tests;
+mod sizes;
+mod store;
+#[cfg(test)]
+mod tests;
+mod top;
 mod window;
 mod words;
 mod worker;

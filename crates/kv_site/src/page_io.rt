@@ -1,4 +1,5 @@
-ghost use Rattle.std.specs.Prelude.{◌≡◌, ◌-◌, ◌≤◌, drop, replicate, IfOk};
+ghost use Rattle.std.specs.Prelude.{◌≡◌, ◌-◌, ◌^◌, ◌≤◌, min, drop, replicate, IfOk};
+ghost use Rattle.std.specs.Int.{div_ceil};
 
 use std::fs::OpenFile;
 use std::io;
@@ -39,9 +40,14 @@ pub fn write_page<F: FileExt>(file: &F, offset: u64, page: &[u8; 4096]) -> io::R
     Ok(at)
 }
 
-/// How many pages a file has, the last one perhaps in part. A file past the last page that can be
-/// named has as many as can be named.
+/// How many pages a file has, the last one perhaps in part.
 pub fn page_count<F: OpenFile>(file: &F) -> io::Result<u32> {
-    let pages = file.metadata()?.len().div_ceil(PAGE as u64);
-    Ok(u32::try_from(pages).unwrap_or(u32::MAX))
+    Ok(pages_of(file.metadata()?.len()))
+}
+
+// The pages that so many bytes take, at most as many as can be counted.
+fn pages_of(bytes: u64) -> u32
+    ensures { result ≡ min (div_ceil bytes 4096) (2 ^ 32 - 1) }
+{
+    u32::try_from(bytes.div_ceil(PAGE as u64)).unwrap_or(u32::MAX)
 }

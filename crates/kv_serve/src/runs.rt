@@ -30,8 +30,7 @@ pub fn run<W: Worker, So: Source, Si: Sink>(
           stream = So.stream;
           source_faults = So.faults;
           held = Si.held;
-          sink_faults =
-              Si.faults;
+          sink_faults = Si.faults;
         } in HasSession streams W.steps worker.old worker.new session result }
     ensures less { W.room worker.old ≤ W.room worker.new + 2 ^ 40 }
 {
@@ -72,8 +71,7 @@ fn run_to_end<W: Worker, So: Source, Si: Sink>(
           stream = So.stream;
           source_faults = So.faults;
           held = Si.held;
-          sink_faults =
-              Si.faults;
+          sink_faults = Si.faults;
         } in Ends streams W.steps worker.old worker.new session.old session.new result.0
         (option_to_list result.1) }
     ensures less { W.room worker.old ≤ W.room worker.new + 2 ^ 40 }
@@ -97,8 +95,7 @@ fn answer_all<W: Worker, So: Source, Si: Sink>(
           stream = So.stream;
           source_faults = So.faults;
           held = Si.held;
-          sink_faults =
-              Si.faults;
+          sink_faults = Si.faults;
         } in MatchResult result (λ _. AnswersAll streams W.steps worker.old worker.new
         session.old session.new []) (λ reply. AnswersAll streams W.steps worker.old worker.new
         session.old session.new (reply ∷ [])) }
@@ -134,8 +131,7 @@ fn answer_front<W: Worker, So: Source, Si: Sink>(
           stream = So.stream;
           source_faults = So.faults;
           held = Si.held;
-          sink_faults =
-              Si.faults;
+          sink_faults = Si.faults;
         } in MatchResult result (λ _. Answers streams W.steps worker.old worker.new
         session.old session.new []) (λ reply. Answers streams W.steps worker.old worker.new
         session.old session.new (reply ∷ [])) }
@@ -160,8 +156,7 @@ fn close<So: Source, Si: Sink>(
           stream = So.stream;
           source_faults = So.faults;
           held = Si.held;
-          sink_faults =
-              Si.faults;
+          sink_faults = Si.faults;
         } in EndsBy streams session.old session.new result.0 (option_to_list result.1) }
     ensures rose { (before now : ℕ) → IsReady ready session.old.waiting session.old.ended
         session.old.taken before now → result.0 ≡ Cause.SourceFault → Rose before now }
@@ -182,8 +177,7 @@ fn close_malformed<So: Source, Si: Sink>(session: &mut Session<So, Si>) -> (Caus
           stream = So.stream;
           source_faults = So.faults;
           held = Si.held;
-          sink_faults =
-              Si.faults;
+          sink_faults = Si.faults;
         } in EndsBy streams session.old session.new result.0 (option_to_list result.1) }
     ensures other { result.0 ≢ Cause.SourceFault }
 {

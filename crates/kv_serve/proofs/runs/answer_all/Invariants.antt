@@ -8,8 +8,7 @@ invariant-loop-worker g l =
     record {
       stream = g.So.Source.stream;
       source_faults = g.So.Source.faults;
-      held =
-          g.Si.Sink.held;
+      held = g.Si.Sink.held;
       sink_faults = g.Si.Sink.faults;
     } in
     AnswersAll streams g.W.Worker.steps l.initial.worker l.worker l.initial.session l.session []

@@ -1,5 +1,5 @@
 -- Lemmas on what a session did.
-use Rattle.std.proofs.Common.{◌≡◌, ◌≢◌, ℕ, ◌+◌, ◌^◌, ◌<◌, ◌≤◌, Bool, true, false, List, [], ◌∷◌, ◌++◌, length, drop, Option, Result, Ok, Err, OnOk, IfErr, MatchResult, inl, inr, refl, sym, ap, subst, ◌∙◌, arith, append_assoc, length-append}
+use Rattle.std.proofs.Common.{◌≡◌, ◌≢◌, ℕ, ◌+◌, ◌^◌, ◌<◌, ◌≤◌, Bool, true, List, [], ◌∷◌, ◌++◌, length, drop, Result, Ok, Err, OnOk, IfErr, MatchResult, inl, inr, refl, sym, ap, subst, ◌∙◌, arith, append_assoc, length-append}
 use Rattle.std.specs.List.{AllByRecursion, flat_map}
 use Rattle.std.proofs.lemmas.List.{append-nil}
 use Rattle.std.proofs.lemmas.List.Concat.{flat_map-append}
@@ -9,9 +9,9 @@ use Rattle.kv_base.specs.declared.reply.Reply.TheVariants as reply
 use Rattle.kv_base.specs.declared.cause.Cause.{Cause}
 use Rattle.kv_base.specs.declared.cause.Cause.TheVariants.{End, Malformed, Limit, SourceFault, SinkFault}
 use Rattle.kv_base.specs.Fault.{Rose}
-use Rattle.kv_base.specs.Stream.{Stream, Passes, IsSpent, Takes}
+use Rattle.kv_base.specs.Stream.{Passes, IsSpent, Takes}
 use Rattle.kv_model.specs.Pairs.{Pair}
-use Rattle.kv_model.specs.Frames.{HasRequestFrame, request_frame, HasReplyFrame, reply_frame, BeginsWithRequest, BeginsWithRequests, BeginsWithNoRequest, IsBad}
+use Rattle.kv_model.specs.Frames.{HasRequestFrame, request_frame, HasReplyFrame, reply_frame, BeginsWithRequest, BeginsWithRequests}
 use Rattle.kv_model.specs.Transcript.{GoesOut, ClosesMalformed, Closes, Leaves}
 use Rattle.kv_frames.specs.Parse.{IsWhole}
 use Rattle.kv_serve.specs.declared.fill.Ready.{Ready}
@@ -32,8 +32,8 @@ pub GoesOut-append : (replies more : List Reply) (given next : List ℕ) (left :
 GoesOut-append replies more given next left p q =
     let is : replies ≡ p.0 = p.2 ∙ append-nil p.0 in
     let gave : given ≡ flat_map reply_frame p.0 = p.3
-        ∙ ap (λ (part : List ℕ). flat_map reply_frame p.0 ++ part) p.4
-        ∙ append-nil (flat_map reply_frame p.0) in (
+    ∙ ap (λ (part : List ℕ). flat_map reply_frame p.0 ++ part) p.4
+    ∙ append-nil (flat_map reply_frame p.0) in (
       p.0 ++ q.0,
       q.1,
       ap (λ (xs : List Reply). xs ++ more) is ∙ ap (λ (xs : List Reply). p.0 ++ xs) q.2
@@ -49,8 +49,14 @@ pub GoesOut-nil : GoesOut [] [] []
 GoesOut-nil = ([], [], refl, refl, refl)
 
 pub GoesOut-one : (one : Reply) → GoesOut (one ∷ []) (reply_frame one) []
-GoesOut-one one = (one ∷ [], [], refl, sym
-    (append-nil (reply_frame one ++ []) ∙ append-nil (reply_frame one)), refl)
+GoesOut-one one = (
+  one ∷ [],
+  [],
+  refl,
+  sym
+      (append-nil (reply_frame one ++ []) ∙ append-nil (reply_frame one)),
+  refl,
+)
 
 pub GoesOut-part : (one : Reply) (part behind : List ℕ) → 1 ≤ length behind
     → reply_frame one ≡ part ++ behind → GoesOut (one ∷ []) part (one ∷ [])
@@ -70,10 +76,10 @@ pub BeginsWithRequests-next : (bytes : List ℕ) (requests : List Request) (rest
     → BeginsWithRequest rest next behind → BeginsWithRequests bytes (requests ++ next ∷ []) behind
 BeginsWithRequests-next bytes requests rest next behind p q =
     let one : flat_map request_frame (next ∷ []) ≡ request_frame next =
-        append-nil (request_frame next) in
+    append-nil (request_frame next) in
     let all : flat_map request_frame (requests ++ next ∷ []) ≡ flat_map request_frame requests ++
-        request_frame next = flat_map-append request_frame requests (next ∷ [])
-        ∙ ap (λ (xs : List ℕ). flat_map request_frame requests ++ xs) one in
+    request_frame next = flat_map-append request_frame requests (next ∷ [])
+    ∙ ap (λ (xs : List ℕ). flat_map request_frame requests ++ xs) one in
     record {
       parts = p.parts ∙ ap (λ (xs : List ℕ). flat_map request_frame requests ++ xs) q.parts
           ∙ sym (append_assoc (flat_map request_frame requests) (request_frame next) behind)
@@ -160,15 +166,20 @@ AnswersAll-answers {W = W} {So = So} streams steps before now after old mid new 
   counted = q.taken ∙ p.counted;
   fronts = BeginsWithRequests-next p.bytes p.handled mid.waiting q.request new.waiting p.fronts
       q.begins;
-  each = omega (arith, p.each, length-append p.replies (q.reply ∷ []), length-append p.handled
-      (q.request ∷ []));
+  each = omega (
+    arith,
+    p.each,
+    length-append p.replies (q.reply ∷ []),
+    length-append p.handled
+        (q.request ∷ []),
+  );
   framed = all-append HasReplyFrame p.replies (q.reply ∷ []) p.framed (q.framed, tt);
   out = GoesOut-append p.replies (q.reply ∷ []) p.given q.given left p.out q.out;
   runs =
       let one : Pair = record { request = q.request; reply = q.reply } in
       subst (λ (pairs : List Pair). Runs steps before pairs after)
-          (sym (pairs_of-push p.handled p.replies q.request q.reply p.each))
-          (Runs-push steps before now after (pairs_of p.handled p.replies) one p.runs q.step);
+      (sym (pairs_of-push p.handled p.replies q.request q.reply p.each))
+      (Runs-push steps before now after (pairs_of p.handled p.replies) one p.runs q.step);
 }
 
 -- a request at the front was used up and answered, whose reply went out so far
@@ -182,19 +193,19 @@ pub Answers-made : {W So Si : Type 0} (streams : Streams So Si)
     → Answers streams steps before now old new left
 Answers-made {Si = Si} streams steps before now old mid new request n one given left whole step
     framed waiting source sink taken ended kept took out = record {
-  request = request;
-  reply = one;
-  given = given;
-  begins = subst (λ (rest : List ℕ). BeginsWithRequest old.waiting request rest)
-      (sym (kept.waiting ∙ waiting)) whole.begins;
-  framed = framed;
-  step = step;
-  took = subst (λ (s : Si). Takes (streams.held s) (streams.held new.sink) given) sink took;
-  out = out;
-  source = kept.source ∙ source;
-  taken = kept.taken ∙ taken;
-  ended = kept.ended ∙ ended;
-}
+      request = request;
+      reply = one;
+      given = given;
+      begins = subst (λ (rest : List ℕ). BeginsWithRequest old.waiting request rest)
+          (sym (kept.waiting ∙ waiting)) whole.begins;
+      framed = framed;
+      step = step;
+      took = subst (λ (s : Si). Takes (streams.held s) (streams.held new.sink) given) sink took;
+      out = out;
+      source = kept.source ∙ source;
+      taken = kept.taken ∙ taken;
+      ended = kept.ended ∙ ended;
+    }
 
 -- the same, by what the delivery of the reply answered
 pub Answers-result : {T W So Si : Type 0} (streams : Streams So Si)
@@ -211,14 +222,14 @@ pub Answers-result : {T W So Si : Type 0} (streams : Streams So Si)
 Answers-result streams steps before now old mid new request n one (Ok x) whole step framed waiting
     source sink taken ended kept ok err =
     Answers-made streams steps before now old mid new request n one (reply_frame one) [] whole step
-        framed waiting source sink taken ended kept ok (GoesOut-one one)
+    framed waiting source sink taken ended kept ok (GoesOut-one one)
 Answers-result streams steps before now old mid new request n one (Err back) whole step framed
     waiting source sink taken ended kept ok err =
     let part = err.1 in
     subst (λ (r : Reply). Answers streams steps before now old new (r ∷ [])) (sym err.0)
     (Answers-made streams steps before now old mid new request n one part.part (one ∷ []) whole step
-        framed waiting source sink taken ended kept part.took
-        (GoesOut-part one part.part part.behind part.some part.parts))
+    framed waiting source sink taken ended kept part.took
+    (GoesOut-part one part.part part.behind part.some part.parts))
 
 -- a count that rose since a moment rose since each earlier one
 pub IsReady-earlier : (r : Ready) (waiting : List ℕ) (ended : Bool) (taken first before now : ℕ)
@@ -235,8 +246,12 @@ IsReady-earlier ready.SourceFault waiting ended taken first before now le p =
 pub request_shorter : (bytes : List ℕ) (request : Request) (rest : List ℕ)
     → BeginsWithRequest bytes request rest → length rest < length bytes
 request_shorter bytes request rest p =
-    omega (arith, ap (λ (xs : List ℕ). length xs) p.parts, length-append (request_frame request)
-        rest)
+    omega (
+      arith,
+      ap (λ (xs : List ℕ). length xs) p.parts,
+      length-append (request_frame request)
+          rest,
+    )
 
 -- what is left to be taken and what waits fall with each request, and so does the worker's room no
 -- faster
@@ -247,8 +262,14 @@ pub Answers-room : {W So Si : Type 0} (streams : Streams So Si)
     → length new.waiting + old.taken < length old.waiting + new.taken
 Answers-room streams steps before now old mid new left p q =
     let shorter = request_shorter mid.waiting q.request new.waiting q.begins in
-    omega (arith, shorter, p.counted, q.taken, ap (λ (xs : List ℕ). length xs) p.behind,
-        length-append old.waiting p.bytes)
+    omega (
+      arith,
+      shorter,
+      p.counted,
+      q.taken,
+      ap (λ (xs : List ℕ). length xs) p.behind,
+      length-append old.waiting p.bytes,
+    )
 
 -- a session ends with no reply of its own
 pub EndsBy-silent : {So Si : Type 0} (streams : Streams So Si) (s : SessionState So Si)
@@ -307,8 +328,11 @@ EndsBy-told streams old new offset stuck at has took kept later = record {
   closing = reply.Malformed offset ∷ [];
   given = reply_frame (reply.Malformed offset);
   framed = (has, tt);
-  closes = λ bytes e. (stuck.none, closes_malformed bytes old.waiting old.ended old.taken offset
-      stuck at e);
+  closes = λ bytes e. (
+    stuck.none,
+    closes_malformed bytes old.waiting old.ended old.taken offset
+        stuck at e,
+  );
   took = took;
   out = GoesOut-one (reply.Malformed offset);
   leaves = refl;
@@ -331,8 +355,10 @@ EndsBy-untold streams old new offset one stuck at has is took kept later rose =
       closing = reply.Malformed offset ∷ [];
       given = took.part;
       framed = (has, tt);
-      closes = λ bytes e. inr (stuck.none,
-          (offset, closes_malformed bytes old.waiting old.ended old.taken offset stuck at e));
+      closes = λ bytes e. inr (
+        stuck.none,
+        (offset, closes_malformed bytes old.waiting old.ended old.taken offset stuck at e),
+      );
       took = took.took;
       out = GoesOut-part (reply.Malformed offset) took.part took.behind took.some took.parts;
       leaves = omega arith;
@@ -354,7 +380,7 @@ pub Ends-closed : {W So Si : Type 0} (streams : Streams So Si)
 Ends-closed {So = So} streams steps before now old mid new cause left p q spent source_later
     sink_later rose =
     let same : streams.source_faults new.source ≡ streams.source_faults mid.source =
-        ap (λ (source : So). streams.source_faults source) q.kept.source in
+    ap (λ (source : So). streams.source_faults source) q.kept.source in
     record {
       bytes = p.bytes;
       given = p.given ++ q.given;

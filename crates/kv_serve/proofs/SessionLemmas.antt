@@ -1,9 +1,9 @@
 -- Lemmas on what a session took and gave.
-use Rattle.std.proofs.Common.{◌≡◌, ℕ, ◌+◌, ◌-◌, ◌≤◌, take, drop, false, List, [], ◌∷◌, ◌++◌, length, Option, None, Some, refl, sym, ap, subst, ◌∙◌, arith, append_assoc, length-append}
+use Rattle.std.proofs.Common.{◌≡◌, ℕ, ◌+◌, ◌-◌, ◌≤◌, take, drop, false, List, [], ◌++◌, length, Option, None, Some, refl, sym, ap, subst, ◌∙◌, arith, append_assoc, length-append}
 use Rattle.std.proofs.lemmas.List.{append-nil, take_at, drop_at, take-take, take-append-drop, take-append-le, drop-take, drop-append-le, length-take-le, length-take, length-drop, take_rest}
 use Rattle.kv_base.specs.Stream.{Stream, Passes, Takes}
 use Rattle.kv_model.specs.Frames.{BeginsWithNoRequest, IsMalformed}
-use Rattle.kv_serve.specs.Session.{SessionState, Arrives, HasRequest, GoesOn, NeedsMore, StaysDecided}
+use Rattle.kv_serve.specs.Session.{SessionState, Arrives, NeedsMore, StaysDecided}
 
 pub Passes-nil : (now : Option Stream) → Passes now now []
 Passes-nil None = tt
@@ -62,15 +62,15 @@ pub StaysDecided-more : {So Si : Type 0} {old mid new : SessionState So Si} → 
 StaysDecided-more {So = So} {Si = Si} stays more = record {
   front = λ h.
       let none = subst (λ (s : SessionState So Si). BeginsWithNoRequest s.waiting) (stays.front h)
-          more.undecided.none in
+      more.undecided.none in
       absurd (none h.request h.rest h.begins);
   bad = λ h.
       let good = subst (λ (s : SessionState So Si). IsMalformed s.waiting → ⊥) (stays.bad h)
-          more.undecided.good in
+      more.undecided.good in
       absurd (good h);
   ended = λ h.
       let goes_on = subst (λ (s : SessionState So Si). s.ended ≡ false) (stays.ended h)
-          more.undecided.goes_on in
+      more.undecided.goes_on in
       absurd cc;
 }
 
@@ -79,8 +79,12 @@ pub take_into : (xs ys : List ℕ) (m n : ℕ) → length xs ≡ m
     → take (m + n) (xs ++ ys) ≡ xs ++ take n ys
 take_into xs ys m n e =
     sym (take-append-drop m (take (m + n) (xs ++ ys)))
-    ∙ rw (take-take m (m + n) (xs ++ ys) (omega arith), drop-take m n (xs ++ ys), take_at xs ys m e,
-        drop_at xs ys m e) refl
+    ∙ rw (
+      take-take m (m + n) (xs ++ ys) (omega arith),
+      drop-take m n (xs ++ ys),
+      take_at xs ys m e,
+      drop_at xs ys m e,
+    ) refl
 
 -- the bytes of a window after a read behind them
 pub window_grows : (start end n : ℕ) (buffer front behind : List ℕ) → start ≤ end
@@ -89,8 +93,11 @@ pub window_grows : (start end n : ℕ) (buffer front behind : List ℕ) → star
     (take end buffer) ++ take n front
 window_grows start end n buffer front behind order within fits =
     let size : length (take end buffer) ≡ end = length-take-le end buffer within in
-    rw (take_into (take end buffer) (front ++ behind) end n size, take-append-le n front behind
-        fits)
+    rw (
+      take_into (take end buffer) (front ++ behind) end n size,
+      take-append-le n front behind
+          fits,
+    )
     (drop-append-le start (take end buffer) (take n front) (omega arith))
 
 -- the same, where the window's bytes and what its buffer holds now are known
@@ -106,9 +113,17 @@ pub length-written : (end k : ℕ) (buffer front : List ℕ)
     → length front ≡ length (take k (drop end buffer))
     → length (take end buffer ++ (front ++ drop k (drop end buffer))) ≡ length buffer
 length-written end k buffer front e =
-    omega (arith, e, length-append (take end buffer) (front ++ drop k (drop end buffer)),
-        length-append front (drop k (drop end buffer)), length-take end buffer, length-take k
-        (drop end buffer), length-drop end buffer, length-drop k (drop end buffer))
+    omega (
+      arith,
+      e,
+      length-append (take end buffer) (front ++ drop k (drop end buffer)),
+      length-append front (drop k (drop end buffer)),
+      length-take end buffer,
+      length-take k
+          (drop end buffer),
+      length-drop end buffer,
+      length-drop k (drop end buffer),
+    )
 
 -- a sink took the front of some bytes, and then the next of them
 pub Takes-more : (a b c : Option (List ℕ)) (sent n : ℕ) (bytes : List ℕ)
@@ -116,9 +131,9 @@ pub Takes-more : (a b c : Option (List ℕ)) (sent n : ℕ) (bytes : List ℕ)
     (take n (take (length bytes - sent) (drop sent bytes))) → Takes a c (take (sent + n) bytes)
 Takes-more a b c sent n bytes p next =
     let q : Takes b c (take n (drop sent bytes)) =
-        subst (λ (xs : List ℕ). Takes b c (take n xs)) (take_rest bytes sent) next in
+    subst (λ (xs : List ℕ). Takes b c (take n xs)) (take_rest bytes sent) next in
     let e : take sent bytes ++ take n (drop sent bytes) ≡ take (sent + n) bytes =
     sym (sym (take-append-drop sent (take (sent + n) bytes))
-        ∙ rw (take-take sent (sent + n) bytes (omega arith), drop-take sent n bytes) refl) in
+    ∙ rw (take-take sent (sent + n) bytes (omega arith), drop-take sent n bytes) refl) in
     subst (λ (xs : List ℕ). Takes a c xs) e
-        (Takes-trans a b c (take sent bytes) (take n (drop sent bytes)) p q)
+    (Takes-trans a b c (take sent bytes) (take n (drop sent bytes)) p q)

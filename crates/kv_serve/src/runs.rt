@@ -26,8 +26,12 @@ pub fn run<W: Worker, So: Source, Si: Sink>(
     requires empty { undelivered.items ≡ [] }
     requires spare { 0 < undelivered.spare }
     ensures session { let streams : Streams So Si =
-        record { stream = So.stream; source_faults = So.faults; held = Si.held; sink_faults =
-        Si.faults } in HasSession streams W.steps worker.old worker.new session result }
+        record {
+          stream = So.stream;
+          source_faults = So.faults;
+          held = Si.held;
+          sink_faults = Si.faults;
+        } in HasSession streams W.steps worker.old worker.new session result }
     ensures less { W.room worker.old ≤ W.room worker.new + 2 ^ 40 }
 {
     let (cause, unsent) = run_to_end(worker, &mut session);
@@ -63,8 +67,12 @@ fn run_to_end<W: Worker, So: Source, Si: Sink>(
     requires room { 2 ^ 40 ≤ W.room worker.old }
     requires new { IsNew session.old }
     ensures ends { let streams : Streams So Si =
-        record { stream = So.stream; source_faults = So.faults; held = Si.held; sink_faults =
-        Si.faults } in Ends streams W.steps worker.old worker.new session.old session.new result.0
+        record {
+          stream = So.stream;
+          source_faults = So.faults;
+          held = Si.held;
+          sink_faults = Si.faults;
+        } in Ends streams W.steps worker.old worker.new session.old session.new result.0
         (option_to_list result.1) }
     ensures less { W.room worker.old ≤ W.room worker.new + 2 ^ 40 }
 {
@@ -83,8 +91,12 @@ fn answer_all<W: Worker, So: Source, Si: Sink>(
     requires room { 2 ^ 40 ≤ W.room worker.old }
     requires new { IsNew session.old }
     ensures all { let streams : Streams So Si =
-        record { stream = So.stream; source_faults = So.faults; held = Si.held; sink_faults =
-        Si.faults } in MatchResult result (λ _. AnswersAll streams W.steps worker.old worker.new
+        record {
+          stream = So.stream;
+          source_faults = So.faults;
+          held = Si.held;
+          sink_faults = Si.faults;
+        } in MatchResult result (λ _. AnswersAll streams W.steps worker.old worker.new
         session.old session.new []) (λ reply. AnswersAll streams W.steps worker.old worker.new
         session.old session.new (reply ∷ [])) }
     ensures last { IfOk result (λ ready. ready ≢ Ready.Request) }
@@ -115,8 +127,12 @@ fn answer_front<W: Worker, So: Source, Si: Sink>(
     requires room { 0 < W.room worker.old }
     requires request { HasRequest session.old.waiting }
     ensures answers { let streams : Streams So Si =
-        record { stream = So.stream; source_faults = So.faults; held = Si.held; sink_faults =
-        Si.faults } in MatchResult result (λ _. Answers streams W.steps worker.old worker.new
+        record {
+          stream = So.stream;
+          source_faults = So.faults;
+          held = Si.held;
+          sink_faults = Si.faults;
+        } in MatchResult result (λ _. Answers streams W.steps worker.old worker.new
         session.old session.new []) (λ reply. Answers streams W.steps worker.old worker.new
         session.old session.new (reply ∷ [])) }
     ensures cause { HasCause (Si.faults session.old.sink) (Si.faults session.new.sink) result }
@@ -136,8 +152,12 @@ fn close<So: Source, Si: Sink>(
     requires { ready ≢ Ready.Request }
     ensures ends { (before now : ℕ) → IsReady ready session.old.waiting session.old.ended
         session.old.taken before now → let streams : Streams So Si =
-        record { stream = So.stream; source_faults = So.faults; held = Si.held; sink_faults =
-        Si.faults } in EndsBy streams session.old session.new result.0 (option_to_list result.1) }
+        record {
+          stream = So.stream;
+          source_faults = So.faults;
+          held = Si.held;
+          sink_faults = Si.faults;
+        } in EndsBy streams session.old session.new result.0 (option_to_list result.1) }
     ensures rose { (before now : ℕ) → IsReady ready session.old.waiting session.old.ended
         session.old.taken before now → result.0 ≡ Cause.SourceFault → Rose before now }
 {
@@ -153,8 +173,12 @@ fn close<So: Source, Si: Sink>(
 /// Tells the client that the bytes at the front are no request.
 fn close_malformed<So: Source, Si: Sink>(session: &mut Session<So, Si>) -> (Cause, Option<Reply>)
     ensures ends { IsStuck session.old.waiting session.old.ended → let streams : Streams So Si =
-        record { stream = So.stream; source_faults = So.faults; held = Si.held; sink_faults =
-        Si.faults } in EndsBy streams session.old session.new result.0 (option_to_list result.1) }
+        record {
+          stream = So.stream;
+          source_faults = So.faults;
+          held = Si.held;
+          sink_faults = Si.faults;
+        } in EndsBy streams session.old session.new result.0 (option_to_list result.1) }
     ensures other { result.0 ≢ Cause.SourceFault }
 {
     let offset = session.taken() - session.waiting().len() as u64;

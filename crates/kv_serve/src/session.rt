@@ -36,8 +36,14 @@ impl<So: Source, Si: Sink> Model for Session<So, Si> {
 
     ghost Value = { SessionState So Si };
 
-    ghost view = { λ s. record { source = s.source; sink = s.sink; waiting = s.window; taken =
-        s.taken; ended = s.ended } };
+    ghost view = { λ s. record {
+      source = s.source;
+      sink = s.sink;
+      waiting = s.window;
+      taken =
+          s.taken;
+      ended = s.ended;
+    } };
 
     ghost invariant = { λ s. (66004 ≤ vec_capacity s.frame) × (length s.window ≤ s.taken)
         × (s.taken ≤ 2 ^ 40) × (s.ended ≡ true → IsSpent (So.stream s.source)) };

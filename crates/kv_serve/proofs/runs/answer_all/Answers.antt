@@ -14,28 +14,37 @@ loop-worker-init g c = (
 pub loop-worker-smaller : goal.loop-worker-smaller
 loop-worker-smaller g c =
     let room = Answers-room _ _ _ _ c.loop-worker.session _ _ _ c.fill-ready.ensures.arrives
-        c.in-Ok.ensures.answers in
+    c.in-Ok.ensures.answers in
     omega (arith, room, c.fill-ready.ensures.limit, c.in-Ok.ensures.answers.taken)
 
 pub loop-worker-preserved : goal.loop-worker-preserved
 loop-worker-preserved g c =
     let all = AnswersAll-arrives _ _ _ _ _ _ _ c.loop-worker.invariant.0
-        c.fill-ready.ensures.arrives c.fill-ready.ensures.sink in
+    c.fill-ready.ensures.arrives c.fill-ready.ensures.sink in
     let room = Answers-room _ _ _ _ c.loop-worker.session _ _ _ c.fill-ready.ensures.arrives
-        c.in-Ok.ensures.answers in (
+    c.in-Ok.ensures.answers in (
       AnswersAll-answers _ _ _ _ _ _ _ _ _ all c.in-Ok.ensures.answers,
       omega (arith, room, c.loop-worker.invariant.1, c.in-Ok.ensures.less),
-      omega (arith, c.loop-worker.invariant.2, c.fill-ready.ensures.later, ap g.So.Source.faults
-          c.in-Ok.ensures.answers.source),
-      omega (arith, c.loop-worker.invariant.3, ap g.Si.Sink.faults c.fill-ready.ensures.sink,
-          c.in-Ok.ensures.cause.later),
+      omega (
+        arith,
+        c.loop-worker.invariant.2,
+        c.fill-ready.ensures.later,
+        ap g.So.Source.faults
+            c.in-Ok.ensures.answers.source,
+      ),
+      omega (
+        arith,
+        c.loop-worker.invariant.3,
+        ap g.Si.Sink.faults c.fill-ready.ensures.sink,
+        c.in-Ok.ensures.cause.later,
+      ),
     )
 
 pub returns-in-Err-clause-all : goal.returns-in-Err-clause-all
 returns-in-Err-clause-all g c =
     AnswersAll-answers _ _ _ _ _ _ _ _ _
-        (AnswersAll-arrives _ _ _ _ _ _ _ c.loop-worker.invariant.0 c.fill-ready.ensures.arrives
-        c.fill-ready.ensures.sink) c.in-Err.ensures.answers
+    (AnswersAll-arrives _ _ _ _ _ _ _ c.loop-worker.invariant.0 c.fill-ready.ensures.arrives
+    c.fill-ready.ensures.sink) c.in-Err.ensures.answers
 
 pub returns-in_default : goal.returns-in_default
 returns-in_default g c =

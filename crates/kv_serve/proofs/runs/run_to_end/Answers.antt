@@ -5,7 +5,7 @@ pub returns-in-Ok-clause-ends : goal.returns-in-Ok-clause-ends
 returns-in-Ok-clause-ends g c =
     let p = c.in-Ok.ensures in
     Ends-closed _ _ _ _ _ _ _ _ _ p.all (c.close.ensures.ends _ _ p.ready) p.spent p.later
-        p.cause.later (c.close.ensures.rose _ _ p.ready)
+    p.cause.later (c.close.ensures.rose _ _ p.ready)
 
 pub returns-in-Err-clause-ends : goal.returns-in-Err-clause-ends
 returns-in-Err-clause-ends g c =

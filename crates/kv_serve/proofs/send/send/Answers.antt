@@ -7,8 +7,12 @@ pub loop-sent-preserved : goal.loop-sent-preserved
 loop-sent-preserved g c =
     let bytes = c.args.bytes.now in
     let sent = c.loop-sent.sent in (
-      omega (arith, c.in-Ok.ensures.bound.1, length-take (length bytes - sent) (drop sent bytes),
-          length-drop sent bytes),
+      omega (
+        arith,
+        c.in-Ok.ensures.bound.1,
+        length-take (length bytes - sent) (drop sent bytes),
+        length-drop sent bytes,
+      ),
       Takes-more _ _ _ _ _ _ c.loop-sent.invariant.1 c.in-Ok.ensures.bytes,
       omega (arith, c.loop-sent.invariant.2, c.in-Ok.ensures.cause.later),
     )

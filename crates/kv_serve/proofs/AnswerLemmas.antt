@@ -232,17 +232,19 @@ module _ {D : Type 0} {d : Ghosts D} where
   run_answers : (pairs : List Pair) (old new : Store D d) (history : List Write) → Holds old history → Runs Steps old pairs new → AllByRecursion (λ pair. IsAnswer d.tells (only_class 7) (history ++ writes pairs) pair.request pair.reply) pairs
   run_answers [] old new history h runs = tt
   run_answers (pair ∷ pairs) old new history h runs =
-      let later = run_writes pairs runs.0 new runs.2 in
-      (answer_later d.tells history (writes pairs) pair.request pair.reply (some_first _ _ (stamp_of pair.reply) (λ n k. writes_behind n runs.0.next (writes pairs) k.1 later) runs.1.stamped) (runs.1.answers history h),
-       subst (λ all. AllByRecursion (λ other. IsAnswer d.tells (only_class 7) all other.request other.reply) pairs) (append_first history (acknowledged_by pair.request pair.reply) (writes pairs))
-       (run_answers pairs runs.0 new (history ++ option_to_list (acknowledged_by pair.request pair.reply)) (runs.1.holds history h) runs.2))
+      let later = run_writes pairs runs.0 new runs.2 in (
+        answer_later d.tells history (writes pairs) pair.request pair.reply (some_first _ _ (stamp_of pair.reply) (λ n k. writes_behind n runs.0.next (writes pairs) k.1 later) runs.1.stamped) (runs.1.answers history h),
+        subst (λ all. AllByRecursion (λ other. IsAnswer d.tells (only_class 7) all other.request other.reply) pairs) (append_first history (acknowledged_by pair.request pair.reply) (writes pairs))
+            (run_answers pairs runs.0 new (history ++ option_to_list (acknowledged_by pair.request pair.reply)) (runs.1.holds history h) runs.2),
+      )
 
   run_full : (pairs : List Pair) (old new : Store D d) (history : List Write) → Holds old history → Runs Steps old pairs new → AllByRecursion (λ pair. IsFullAtLimit (history ++ writes pairs) pair.reply) pairs
   run_full [] old new history h runs = tt
-  run_full (pair ∷ pairs) old new history h runs =
-      (full_later history (writes (pair ∷ pairs)) pair.reply (runs.1.full history h),
-       subst (λ all. AllByRecursion (λ other. IsFullAtLimit all other.reply) pairs) (append_first history (acknowledged_by pair.request pair.reply) (writes pairs))
-       (run_full pairs runs.0 new (history ++ option_to_list (acknowledged_by pair.request pair.reply)) (runs.1.holds history h) runs.2))
+  run_full (pair ∷ pairs) old new history h runs = (
+    full_later history (writes (pair ∷ pairs)) pair.reply (runs.1.full history h),
+    subst (λ all. AllByRecursion (λ other. IsFullAtLimit all other.reply) pairs) (append_first history (acknowledged_by pair.request pair.reply) (writes pairs))
+        (run_full pairs runs.0 new (history ++ option_to_list (acknowledged_by pair.request pair.reply)) (runs.1.holds history h) runs.2),
+  )
 
   run_closes : (pairs : List Pair) (old new : Store D d) → Runs Steps old pairs new → ClosesBehindUnsure (only_class 7) old.closed pairs
   run_closes [] old new runs = tt

@@ -27,8 +27,8 @@ latest_below [] stamp key bound h = tt
 latest_below (write ∷ writes) stamp key bound h =
     let rest = latest_below writes stamp key bound h.1 in
     elim (bytes_eq write.key key && nat_le write.stamp stamp) as (λ b. IfSome (cond b (Some (later_of write (latest writes stamp key))) (latest writes stamp key)) (λ w. w.stamp < bound)) [
-      true ↦ later_of_below write (latest writes stamp key) bound h.0 rest
-    | false ↦ rest
+      | true ↦ later_of_below write (latest writes stamp key) bound h.0 rest
+      | false ↦ rest
     ]
 
 preferred_last : (rest : Option Write) (write : Write) → IfSome rest (λ other. other.stamp < write.stamp) → preferred rest write ≡ write

@@ -1,5 +1,5 @@
 -- Lemmas on where items lie.
-use Rattle.std.proofs.Common.{◌≡◌, ℕ, Bool, true, false, cond, List, [], ◌∷◌, ◌++◌, map, Option, Some, IsSome, ◌≢◌, Vec, Less,  refl, sym, ap, subst, ◌∙◌, ⊎_elim, arith, append_assoc}
+use Rattle.std.proofs.Common.{◌≡◌, ℕ, Bool, true, false, cond, List, [], ◌∷◌, ◌++◌, map, Option, Some, IsSome, ◌≢◌, Vec, Less, refl, sym, ap, subst, ◌∙◌, ⊎_elim, arith, append_assoc}
 use Rattle.std.proofs.lemmas.Bool.{cases_Bool, false≢true, cond-true, cond-false}
 use Rattle.std.proofs.lemmas.Slice.Eq.{bytes_eq-Decides}
 use Rattle.std.proofs.lemmas.List.{length-map}
@@ -67,8 +67,8 @@ all_apart (k ∷ ks) h = (bytes_apart k ks (sorted_head (λ a b. slice_cmp nat_c
 -- a map in order has as many keys with a page as it has entries
 pub places_of_all : (pages : BTreeMap (Vec ℕ Global) ℕ) → IsOrdered (λ a b. slice_cmp nat_cmp a.items b.items) pages → HasPlaces pages (btree_map_len pages)
 places_of_all pages ordered = record {
-    keys = bytes_of (keys pages);
-    apart = all_apart (keys pages) ordered;
-    many = simp length-map (omega arith);
-    each = each_found [] pages.entries;
-  }
+  keys = bytes_of (keys pages);
+  apart = all_apart (keys pages) ordered;
+  many = simp length-map (omega arith);
+  each = each_found [] pages.entries;
+}

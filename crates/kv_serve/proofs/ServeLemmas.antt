@@ -24,21 +24,21 @@ module _ {D : Type 0} (d : Ghosts D) where
   -- what was served over the disk was served over the disk as it was earlier, and from these ends
   pub serves_from : {So Si : Type 0} (streams : Streams So Si) (earlier disk disk' : D) (source other source' : So) (sink another sink' : Si) (ending : Ending) (unsure : Bool) → other ≡ source → another ≡ sink → d.faults earlier ≤ d.faults disk → Serves d streams disk disk' other source' another sink' ending unsure → Serves d streams earlier disk' source source' sink sink' ending unsure
   serves_from streams earlier disk disk' source other source' sink another sink' ending unsure same_source same_sink le h = record {
-      bytes = h.bytes;
-      ended = h.ended;
-      given = h.given;
-      handled = h.handled;
-      replies = h.replies;
-      passed = rw (← same_source) h.passed;
-      took = rw (← same_sink) h.took;
-      counted = h.counted;
-      spent = h.spent;
-      transcript = h.transcript;
-      answers = answers_from earlier disk disk' _ le h.answers;
-      unsure_is = h.unsure_is;
-      source_rose = rw (← same_source) h.source_rose;
-      sink_rose = rw (← same_sink) h.sink_rose;
-    }
+    bytes = h.bytes;
+    ended = h.ended;
+    given = h.given;
+    handled = h.handled;
+    replies = h.replies;
+    passed = rw (← same_source) h.passed;
+    took = rw (← same_sink) h.took;
+    counted = h.counted;
+    spent = h.spent;
+    transcript = h.transcript;
+    answers = answers_from earlier disk disk' _ le h.answers;
+    unsure_is = h.unsure_is;
+    source_rose = rw (← same_source) h.source_rose;
+    sink_rose = rw (← same_sink) h.sink_rose;
+  }
 
 -- ends that came back as they were taken are held as before
 pub sessions_kept : {In Out Pages : Type 0} (before after : Held In Out Pages) (ends ends' : In × Out) → ends' ≡ ends → ReturnsSession before after ends ends' → SessionsKept before after

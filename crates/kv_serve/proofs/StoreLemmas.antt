@@ -84,9 +84,9 @@ module _ {D : Type 0} {d : Ghosts D} where
   -- a store that changes nothing but its next stamp holds the same
   pub holds_same : (old new : Store D d) (history : List Write) → Holds old history → old.next ≤ new.next → (IsTrue d.tells → d.seen new.disk ≡ d.seen old.disk) → new.pages.entries ≡ old.pages.entries → new.closed ≡ old.closed → Holds new history
   holds_same old new history h later same pages closed = record {
-      below = below_more history old.next new.next later h.below;
-      kept = λ unclosed key stamp from. keeps_same d.tells (d.seen old.disk) (d.seen new.disk) (place_of new.pages key) key (value_at history stamp key) same (rw pages (h.kept (sym closed ∙ unclosed) key stamp (omega arith)));
-    }
+    below = below_more history old.next new.next later h.below;
+    kept = λ unclosed key stamp from. keeps_same d.tells (d.seen old.disk) (d.seen new.disk) (place_of new.pages key) key (value_at history stamp key) same (rw pages (h.kept (sym closed ∙ unclosed) key stamp (omega arith)));
+  }
 
   -- each key with a page was written
   each_has_value : (store : Store D d) (history : List Write) (keys : List (List ℕ)) → Holds store history → store.closed ≡ false → AllByRecursion (λ key. IsSome (place_of store.pages key)) keys → AllByRecursion (λ key. Writes history key) keys
@@ -97,27 +97,27 @@ module _ {D : Type 0} {d : Ghosts D} where
   -- as many keys were written as have a page
   pub keys_from_places : (store : Store D d) → store.closed ≡ false → HasPlaces store.pages slot_limit → (history : List Write) → Holds store history → HasKeys history slot_limit
   keys_from_places store unclosed places history h = record {
-      keys = places.keys;
-      apart = places.apart;
-      many = places.many;
-      each = each_has_value store history places.keys h unclosed places.each;
-    }
+    keys = places.keys;
+    apart = places.apart;
+    many = places.many;
+    each = each_has_value store history places.keys h unclosed places.each;
+  }
 
   -- a request whose reply leaves all but the next stamp as it is
   pub steps_kept : (old new : Store D d) (request : Request) (reply : Reply) → refusal_of (only_class 7) request ≡ None → old.closed ≡ false → old.next ≤ new.next → (IsTrue d.tells → d.seen new.disk ≡ d.seen old.disk) → new.pages.entries ≡ old.pages.entries → new.closed ≡ old.closed
       → acknowledged_by request reply ≡ None → is_unsure reply ≡ false → (reply ≡ Closed → ⊥) → ((history : List Write) → Holds old history → IsMapAnswer d.tells (only_class 7) history request reply) → ((history : List Write) → Holds old history → IsFullAtLimit history reply)
       → IfSome (stamp_of reply) (λ stamp. (old.next ≤ stamp) × (stamp < new.next)) → RoseBy (faults_told reply) (d.faults old.disk) (d.faults new.disk) → TakesCalls reply (d.calls old.disk) (d.calls new.disk) → Steps old request reply new
   steps_kept old new request reply good unclosed later same pages closed silent sure other answers full stamped cause taken = record {
-      answers = λ history h. answer_from d.tells history request reply good (answers history h);
-      holds = λ history h. rw silent (holds_nothing_more new history (holds_same old new history h later same pages closed));
-      full = full;
-      stamped = stamped;
-      later = later;
-      closes = closes_open old.closed request reply other unclosed;
-      closing = rw sure (closed ∙ or_false old.closed);
-      cause = cause;
-      taken = taken;
-    }
+    answers = λ history h. answer_from d.tells history request reply good (answers history h);
+    holds = λ history h. rw silent (holds_nothing_more new history (holds_same old new history h later same pages closed));
+    full = full;
+    stamped = stamped;
+    later = later;
+    closes = closes_open old.closed request reply other unclosed;
+    closing = rw sure (closed ∙ or_false old.closed);
+    cause = cause;
+    taken = taken;
+  }
 
   -- a key without a page has no value
   pub steps_missing : (old new : Store D d) (key : List ℕ) → refusal_of (only_class 7) (Get key) ≡ None → old.closed ≡ false → place_of old.pages key ≡ None → new.next ≡ old.next + 1 → new.disk ≡ old.disk → new.pages.entries ≡ old.pages.entries → new.closed ≡ old.closed → Steps old (Get key) (Missing old.next) new
@@ -165,16 +165,16 @@ module _ {D : Type 0} {d : Ghosts D} where
   -- a put whose write or sync failed
   pub steps_unsure : (old new : Store D d) (key value : List ℕ) → refusal_of (only_class 7) (Put key value) ≡ None → old.closed ≡ false → new.next ≡ old.next + 1 → new.closed ≡ true → RoseBy 1 (d.faults old.disk) (d.faults new.disk) → Steps old (Put key value) (Unsure old.next) new
   steps_unsure old new key value good unclosed next closed rose = record {
-      answers = λ history h. answer_from d.tells history (Put key value) (Unsure old.next) good tt;
-      holds = λ history h. holds_nothing_more new history (record { below = below_more history old.next new.next (omega (arith, next)) h.below; kept = λ e. absurd (false≢true (sym e ∙ closed)) });
-      full = λ _ _. tt;
-      stamped = (omega arith, omega (arith, next));
-      later = omega (arith, next);
-      closes = closes_open old.closed (Put key value) (Unsure old.next) (λ e. cc) unclosed;
-      closing = rw unclosed closed;
-      cause = rose;
-      taken = tt;
-    }
+    answers = λ history h. answer_from d.tells history (Put key value) (Unsure old.next) good tt;
+    holds = λ history h. holds_nothing_more new history (record { below = below_more history old.next new.next (omega (arith, next)) h.below; kept = λ e. absurd (false≢true (sym e ∙ closed)) });
+    full = λ _ _. tt;
+    stamped = (omega arith, omega (arith, next));
+    later = omega (arith, next);
+    closes = closes_open old.closed (Put key value) (Unsure old.next) (λ e. cc) unclosed;
+    closing = rw unclosed closed;
+    cause = rose;
+    taken = tt;
+  }
 
   -- what the store holds after a put that is on disk
   holds_put : (old new : Store D d) (key value content : List ℕ) (page : ℕ) (history : List Write) → Holds old history → old.closed ≡ false → new.next ≡ old.next + 1 → GivesPage old.pages new.pages key page → IsPlaced new.pages
@@ -184,29 +184,29 @@ module _ {D : Type 0} {d : Ghosts D} where
       record {
         below = below_last history write new.next (below_more history old.next new.next (omega (arith, next)) h.below) (omega (arith, next));
         kept = λ _ other stamp from.
-          ⊎_elim
-          (λ y. let same : key ≡ other = (bytes_eq-Decides key other).0 y in
+            ⊎_elim
+            (λ y. let same : key ≡ other = (bytes_eq-Decides key other).0 y in
             subst (λ k. Keeps d.tells (d.seen new.disk) (place_of new.pages k) k (value_at (history ++ write ∷ []) stamp k)) same
             (rw (gives.here, value_at-last history write stamp h.below (omega (arith, next, from))) (λ t. let here : d.seen new.disk 7 page ≡ content = ap (λ i. i 7 page) (written t) ∙ with_page-here (d.seen old.disk) 7 page content in rw here reads)))
-          (λ n. let apart : key ≡ other → ⊥ = λ e. false≢true (sym n ∙ (bytes_eq-Decides key other).1 e) in
+            (λ n. let apart : key ≡ other → ⊥ = λ e. false≢true (sym n ∙ (bytes_eq-Decides key other).1 e) in
             rw (value_at-other history write stamp other apart)
             (keeps_elsewhere d.tells (d.seen old.disk) (d.seen new.disk) page content (place_of new.pages other) other (value_at history stamp other) written
-              (λ e. apart (placed.apart key other page gives.here e))
-              (rw (gives.others other apart) (h.kept unclosed other stamp (omega (arith, next, from))))))
-          (cases_Bool (bytes_eq key other));
+            (λ e. apart (placed.apart key other page gives.here e))
+            (rw (gives.others other apart) (h.kept unclosed other stamp (omega (arith, next, from))))))
+            (cases_Bool (bytes_eq key other));
       }
 
   -- a put that is on disk
   pub steps_stored : (old new : Store D d) (key value content : List ℕ) (page : ℕ) → refusal_of (only_class 7) (Put key value) ≡ None → old.closed ≡ false → new.closed ≡ old.closed → new.next ≡ old.next + 1 → GivesPage old.pages new.pages key page → IsPlaced new.pages
       → (IsTrue d.tells → d.seen new.disk ≡ with_page (d.seen old.disk) 7 page content) → ReadsAs content key value → d.faults old.disk ≤ d.faults new.disk → d.calls new.disk ≡ next_count (next_count (d.calls old.disk)) → Steps old (Put key value) (Stored old.next) new
   steps_stored old new key value content page good unclosed closed next gives placed written reads faults calls = record {
-      answers = λ history h. answer_from d.tells history (Put key value) (Stored old.next) good tt;
-      holds = λ history h. holds_put old new key value content page history h unclosed next gives placed written reads;
-      full = λ _ _. tt;
-      stamped = (omega arith, omega (arith, next));
-      later = omega (arith, next);
-      closes = closes_open old.closed (Put key value) (Stored old.next) (λ e. cc) unclosed;
-      closing = closed ∙ or_false old.closed;
-      cause = omega arith;
-      taken = calls;
-    }
+    answers = λ history h. answer_from d.tells history (Put key value) (Stored old.next) good tt;
+    holds = λ history h. holds_put old new key value content page history h unclosed next gives placed written reads;
+    full = λ _ _. tt;
+    stamped = (omega arith, omega (arith, next));
+    later = omega (arith, next);
+    closes = closes_open old.closed (Put key value) (Stored old.next) (λ e. cc) unclosed;
+    closing = closed ∙ or_false old.closed;
+    cause = omega arith;
+    taken = calls;
+  }

@@ -27,7 +27,7 @@ Keeps told image (Some page) key (Some value) = IsTrue told → ReadsAs (image 7
 pub record Holds {D : Type 0} {d : Ghosts D} (store : Store D d) (history : List Write) : Type 0 where
   pub below : AllByRecursion (λ write. write.stamp < store.next) history
   pub kept : store.closed ≡ false → (key : List ℕ) (stamp : ℕ) → store.next ≤ stamp + 1
-    → Keeps d.tells (d.seen store.disk) (place_of store.pages key) key (value_at history stamp key)
+      → Keeps d.tells (d.seen store.disk) (place_of store.pages key) key (value_at history stamp key)
 
 -- the device calls that the reply took
 abbrev pub TakesCalls : Reply → ℕ → ℕ → Type 0

@@ -16,7 +16,9 @@ pub fn found(alloc: Global, stamp: u64, key: &[u8], content: &[u8; 4096]) -> Rep
 {
     match read_fitting(content, CLASS, 0) {
         Slot::Item {
-            key: other, value, ..
+            key: other,
+            value,
+            ..
         } if other == key && value.len() <= ROOM => match Bytes::copy(alloc, value) {
             Ok(value) => Reply::Found { stamp, value },
             Err(_) => Reply::NoMemory,

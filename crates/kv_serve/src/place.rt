@@ -38,11 +38,7 @@ pub fn page_for(
 }
 
 /// A page for a key that has none.
-fn new_page(
-    alloc: Global,
-    pages: &mut BTreeMap<Vec<u8>, u32>,
-    key: &[u8],
-) -> Result<u32, Unplaced>
+fn new_page(alloc: Global, pages: &mut BTreeMap<Vec<u8>, u32>, key: &[u8]) -> Result<u32, Unplaced>
     requires placed { IsPlaced pages.old }
     requires absent { place_of pages.old key.now ≡ None }
     ensures ok { IfOk result (GivesPage pages.old pages.new key.now) }

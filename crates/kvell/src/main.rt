@@ -4,10 +4,9 @@
 use kv_serve::run_words;
 use kv_site::FileSite;
 use std::alloc::Global;
-use std::env;
-use std::io;
 use std::process::ExitCode;
 use std::rt::Env;
+use std::{env, io};
 
 /// The status where the words are none of a command.
 const USAGE: u8 = 2;

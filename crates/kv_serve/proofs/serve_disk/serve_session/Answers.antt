@@ -8,18 +8,21 @@ returns-in-Ok g c before between folder n taken disk_taken session_taken opens f
     let back = λ (t : IsTrue g.S.Site.tells). c.give_both_back.ensures.back before between folder taken (c.args.source, c.args.sink) t (disk_taken t) (session_taken t) in
     let one : c.append.new.self.items ≡ c.serve_one-served.result.ending ∷ [] = (rw c.unwrap.ensures at c.append.ensures.ok) ∙ ap (λ l. l ++ c.serve_one-served.result.ending ∷ []) c.requires.endings in
     record {
-      ends = rw one (refl, record {
-        disk = taken;
-        disk' = c.serve_one-served.result.disk;
-        ends = (c.args.source, c.args.sink);
-        ends' = (c.serve_one-served.result.source, c.serve_one-served.result.sink);
-        unsure = c.serve_one-served.result.unsure;
-        new = λ t. (opens t).0;
-        disks = λ t. (back t).disks;
-        sessions = λ t. (back t).sessions;
-        serves = serves_from g.S.Pages.Disk _ taken c.args.store.disk _ c.args.source c.in-Ok.session.source _ c.args.sink c.in-Ok.session.sink _ _ _ c.in-Ok.ensures.ok.1 c.in-Ok.ensures.ok.2 faults c.serve_one-served.ensures;
-        status_is = c.status_of-status.ensures;
-      });
+      ends = rw one (
+        refl,
+        record {
+          disk = taken;
+          disk' = c.serve_one-served.result.disk;
+          ends = (c.args.source, c.args.sink);
+          ends' = (c.serve_one-served.result.source, c.serve_one-served.result.sink);
+          unsure = c.serve_one-served.result.unsure;
+          new = λ t. (opens t).0;
+          disks = λ t. (back t).disks;
+          sessions = λ t. (back t).sessions;
+          serves = serves_from g.S.Pages.Disk _ taken c.args.store.disk _ c.args.source c.in-Ok.session.source _ c.args.sink c.in-Ok.session.sink _ _ _ c.in-Ok.ensures.ok.1 c.in-Ok.ensures.ok.2 faults c.serve_one-served.ensures;
+          status_is = c.status_of-status.ensures;
+        },
+      );
       report = λ t. (back t).report;
     }
 

@@ -31,7 +31,7 @@ pub fn write_page<F: FileExt>(file: &F, offset: u64, page: &[u8; 4096]) -> io::R
     ensures whole { IfOk result (λ n. n ≡ 4096) }
 {
     let mut at = 0;
-    while at < PAGE {
+    while at < page.len() {
         match file.write_at(&page[at..], offset.wrapping_add(at as u64))? {
             0 => return Err(io::Error::from(io::ErrorKind::WriteZero)),
             n => at += n,

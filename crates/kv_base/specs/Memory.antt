@@ -1,9 +1,11 @@
 -- Sources and sinks in memory, as their callers see them.
-use Rattle.std.specs.Prelude.{◌≡◌, ℕ, ◌-◌, ◌⊎◌, ◌↔◌, min, List, length, Contains, Result, IsErr, IfOk, IsOkAnd, OnErr, is_err, if◌then◌else◌}
+use Rattle.std.specs.Prelude.{◌≡◌, ℕ, ◌-◌, ◌⊎◌, ◌↔◌, min, List, length, Contains, Result, IsErr}
+use Rattle.std.specs.Prelude.{IfOk, IsOkAnd, OnErr, is_err, if◌then◌else◌}
 use Rattle.kv_base.specs.Calls.{next_count}
 use Rattle.kv_base.specs.Stream.{Stream}
 
--- a source in memory: its bytes, the most that one read gives, the numbers of the calls that fail, and its counts
+-- a source in memory: its bytes, the most that one read gives, the numbers of the calls that fail,
+-- and its counts
 pub record Feed : Type 0 where
   pub stream : Stream
   pub piece : ℕ
@@ -11,8 +13,10 @@ pub record Feed : Type 0 where
   pub calls : ℕ
   pub faults : ℕ
 
--- a read fails exactly at a listed call, and otherwise gives as much as the buffer, the piece and the rest allow
-pub record Reads {E : Type 0} (old new : Feed) (buffer : List ℕ) (result : Result ℕ E) : Type 0 where
+-- a read fails exactly at a listed call, and otherwise gives as much as the buffer, the piece and
+-- the rest allow
+pub record Reads {E : Type 0} (old new : Feed) (buffer : List ℕ)
+    (result : Result ℕ E) : Type 0 where
   pub failed : IsErr result ↔ Contains old.failing (next_count old.calls)
   pub given : IfOk result (λ n. n ≡ min (length buffer) (min old.piece (length old.stream.left)))
   pub piece : new.piece ≡ old.piece
@@ -26,11 +30,13 @@ pub record SureFeed : Type 0 where
   pub piece : ℕ
 
 -- a read never fails, and gives as much as the buffer, the piece and the rest allow
-pub record SureReads {E : Type 0} (old new : SureFeed) (buffer : List ℕ) (result : Result ℕ E) : Type 0 where
+pub record SureReads {E : Type 0} (old new : SureFeed) (buffer : List ℕ) (result : Result ℕ E) :
+    Type 0 where
   pub given : IsOkAnd result (λ n. n ≡ min (length buffer) (min old.piece (length old.stream.left)))
   pub piece : new.piece ≡ old.piece
 
--- a sink in memory: what it took, the room that is left, the numbers of the calls that fail, and its counts
+-- a sink in memory: what it took, the room that is left, the numbers of the calls that fail, and
+-- its counts
 pub record Tray : Type 0 where
   pub taken : List ℕ
   pub room : ℕ
@@ -38,8 +44,10 @@ pub record Tray : Type 0 where
   pub calls : ℕ
   pub faults : ℕ
 
--- a write fails exactly at a listed call and where no room is left, and otherwise takes what the room holds
-pub record Writes {E : Type 0} (old new : Tray) (bytes : List ℕ) (result : Result ℕ E) : Type 0 where
+-- a write fails exactly at a listed call and where no room is left, and otherwise takes what the
+-- room holds
+pub record Writes {E : Type 0} (old new : Tray) (bytes : List ℕ)
+    (result : Result ℕ E) : Type 0 where
   pub failed : IsErr result ↔ (Contains old.failing (next_count old.calls) ⊎ (old.room ≡ 0))
   pub given : IfOk result (λ n. (n ≡ min (length bytes) old.room) × (new.room ≡ old.room - n))
   pub room : OnErr result (new.room ≡ old.room)

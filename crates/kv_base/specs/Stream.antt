@@ -11,7 +11,8 @@ abbrev pub Passes : Option Stream → Option Stream → List ℕ → Type 0
 Passes None None bytes = ⊤
 Passes None (Some after) bytes = ⊥
 Passes (Some before) None bytes = ⊥
-Passes (Some before) (Some after) bytes = (after.taken ≡ before.taken ++ bytes) × (before.left ≡ bytes ++ after.left)
+Passes (Some before) (Some after) bytes = (after.taken ≡ before.taken ++ bytes)
+    × (before.left ≡ bytes ++ after.left)
 
 -- where the source tells its bytes, none is left
 abbrev pub IsSpent : Option Stream → Type 0

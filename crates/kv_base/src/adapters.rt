@@ -4,8 +4,8 @@ ghost use Rattle.kv_base.specs.Stream.{Stream};
 use crate::{Failed, Sink, Source};
 use std::io::{Read, Write};
 
-/// A source over any reader of std. It makes one call of the reader for each of its own and keeps no
-/// byte back. It counts each error as a fault, and tells no bytes.
+/// A source over any reader of std. It makes one call of the reader for each of its own and keeps
+/// no byte back. It counts each error as a fault, and tells no bytes.
 #[derive(Drop)]
 pub struct ReaderSource<R: Read> {
     reader: R,
@@ -36,7 +36,8 @@ impl<R: Read> Source for ReaderSource<R> {
 }
 
 /// A sink over any writer of std. It makes one call of the writer for each of its own and keeps no
-/// byte back. It counts each error as a fault, and so a writer that takes 0 bytes. It tells no bytes.
+/// byte back. It counts each error as a fault, and so a writer that takes 0 bytes. It tells no
+/// bytes.
 #[derive(Drop)]
 pub struct WriterSink<W: Write> {
     writer: W,

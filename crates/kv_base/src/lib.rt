@@ -1,4 +1,5 @@
-//! Types and traits that every crate of the store shares, and the definitions that stand beside them.
+//! Types and traits that every crate of the store shares, and the definitions that stand beside
+//! them.
 #![tactic(auto)]
 
 mod adapters;

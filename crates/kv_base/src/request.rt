@@ -7,7 +7,8 @@ pub enum Request {
     Put {
         /// The key, 1 to 255 bytes, else the reply is `BadKey`.
         key: Bytes,
-        /// The value. With the key it has at most the room of the largest class, else the reply is `TooLarge`.
+        /// The value. With the key it has at most the room of the largest class, else the reply is
+        /// `TooLarge`.
         value: Bytes,
     },
     /// Asks for the value of the key.

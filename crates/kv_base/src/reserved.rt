@@ -1,4 +1,6 @@
-ghost use Rattle.std.specs.Prelude.{◌≡◌, ◌≤◌, ◌<◌, ◌+◌, ◌-◌, [], ◌∷◌, ◌++◌, length, IfOk, IfErr, OnOk, OnErr, IsOk, IsSome, is_some, ◌↔◌, if◌then◌else◌, option_to_list};
+ghost use Rattle.std.specs.Prelude.{◌≡◌, ◌≤◌, ◌<◌, ◌+◌, ◌-◌, [], ◌∷◌, ◌++◌, length, IfOk, IfErr};
+ghost use Rattle.std.specs.Prelude.{OnOk, OnErr, IsOk, IsSome, is_some, ◌↔◌, if◌then◌else◌};
+ghost use Rattle.std.specs.Prelude.{option_to_list};
 
 use crate::{NoMemory, Reply};
 use std::alloc::{AllocFailed, Global};
@@ -27,7 +29,8 @@ impl<T> Model for ReservedList<T> {
 }
 
 impl<T> ReservedList<T> {
-    /// An empty list with room for `n` items. The one error is want of memory; none is wanted for no item.
+    /// An empty list with room for `n` items. The one error is want of memory; none is wanted for
+    /// no item.
     pub fn with_room(alloc: Global, n: usize) -> Result<ReservedList<T>, NoMemory>
         ensures empty { IfOk result (λ list. list.items ≡ []) }
         ensures room { IfOk result (λ list. n ≤ list.spare) }
@@ -37,8 +40,8 @@ impl<T> ReservedList<T> {
         Ok(ReservedList { items, spare: n })
     }
 
-    /// Appends an item. Where there is spare room it is `Ok` and takes no memory; else want of memory
-    /// gives the item back and leaves the list.
+    /// Appends an item. Where there is spare room it is `Ok` and takes no memory; else want of
+    /// memory gives the item back and leaves the list.
     pub fn append(&mut self, item: T) -> Result<(), (T, NoMemory)>
         ensures ok { OnOk result (self.new.items ≡ self.old.items ++ item ∷ []) }
         ensures room { 0 < self.old.spare → IsOk result }

@@ -1,4 +1,5 @@
-ghost use Rattle.std.specs.Prelude.{◌≡◌, ℕ, ◌<◌, ◌≤◌, List, [], Option, Some, take, length, IfOk, OnErr};
+ghost use Rattle.std.specs.Prelude.{◌≡◌, ℕ, ◌<◌, ◌≤◌, List, [], Option, Some, take, length, IfOk};
+ghost use Rattle.std.specs.Prelude.{OnErr};
 ghost use Rattle.kv_base.specs.Fault.{HasCause};
 ghost use Rattle.kv_base.specs.Stream.{Takes};
 ghost use Rattle.kv_base.specs.Memory.{Tray, Writes};
@@ -24,7 +25,13 @@ impl Model for MemSink {
 
     ghost Value = { Tray };
 
-    ghost view = { λ s. record { taken = s.taken.items; room = s.room; failing = s.failing; calls = s.calls; faults = s.faults } };
+    ghost view = { λ s. record {
+      taken = s.taken.items;
+      room = s.room;
+      failing = s.failing;
+      calls = s.calls;
+      faults = s.faults;
+    } };
 
     ghost invariant = { λ s. vec_len s.taken + s.room ≤ vec_capacity s.taken };
 }
@@ -32,7 +39,13 @@ impl Model for MemSink {
 impl MemSink {
     /// An empty sink with room for so many bytes, which it takes at once.
     pub fn new(alloc: Global, room: usize, failing: Calls) -> Result<MemSink, NoMemory>
-        ensures { IfOk result (λ sink. sink ≡ record { taken = []; room = room; failing = failing; calls = 0; faults = 0 }) }
+        ensures { IfOk result (λ sink. sink ≡ record {
+          taken = [];
+          room = room;
+          failing = failing;
+          calls = 0;
+          faults = 0;
+        }) }
     {
         Ok(MemSink {
             taken: Vec::with_capacity(alloc, room)?,
@@ -59,7 +72,8 @@ impl Sink for MemSink {
     fn write(&mut self, bytes: &[u8]) -> Result<usize, Failed>
         requires { 0 < length bytes.now }
         ensures bound { IfOk result (λ n. (0 < n) × (n ≤ length bytes.now)) }
-        ensures bytes { IfOk result (λ n. Takes (Some self.old.taken) (Some self.new.taken) (take n bytes.now)) }
+        ensures bytes { IfOk result (λ n. Takes (Some self.old.taken) (Some self.new.taken)
+            (take n bytes.now)) }
         ensures err { OnErr result (Takes (Some self.old.taken) (Some self.new.taken) []) }
         ensures cause { HasCause self.old.faults self.new.faults result }
 

@@ -1,4 +1,5 @@
-ghost use Rattle.std.specs.Prelude.{◌≡◌, ℕ, ◌<◌, ◌≤◌, List, [], Option, Ok, take, length, IfOk, OnErr};
+ghost use Rattle.std.specs.Prelude.{◌≡◌, ℕ, ◌<◌, ◌≤◌, List, [], Option, Ok, take, length, IfOk};
+ghost use Rattle.std.specs.Prelude.{OnErr};
 ghost use Rattle.kv_base.specs.Fault.{HasCause};
 ghost use Rattle.kv_base.specs.Stream.{Stream, Passes, IsSpent};
 
@@ -13,11 +14,13 @@ pub trait Source {
     ghost faults: { Self → ℕ };
 
     /// Takes the next bytes into the front of the buffer, which isn't empty, and answers how many.
-    /// `Ok(0)` is the end of the input. After `Failed`, which the count of faults shows, nothing was taken.
+    /// `Ok(0)` is the end of the input. After `Failed`, which the count of faults shows, nothing
+    /// was taken.
     fn read(&mut self, buf: &mut [u8]) -> Result<usize, Failed>
         requires { 0 < length buf.old }
         ensures bound { IfOk result (λ n. n ≤ length buf.new) }
-        ensures bytes { IfOk result (λ n. Passes (stream self.old) (stream self.new) (take n buf.new)) }
+        ensures bytes { IfOk result (λ n. Passes (stream self.old) (stream self.new)
+            (take n buf.new)) }
         ensures end { result ≡ Ok 0 → IsSpent (stream self.new) }
         ensures err { OnErr result (Passes (stream self.old) (stream self.new) []) }
         ensures cause { HasCause (faults self.old) (faults self.new) result };

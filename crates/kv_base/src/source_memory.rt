@@ -1,4 +1,5 @@
-ghost use Rattle.std.specs.Prelude.{◌≡◌, ℕ, ◌<◌, ◌≤◌, List, [], Option, Ok, Some, take, length, IfOk, IsOk, OnErr};
+ghost use Rattle.std.specs.Prelude.{◌≡◌, ℕ, ◌<◌, ◌≤◌, List, [], Option, Ok, Some, take, length};
+ghost use Rattle.std.specs.Prelude.{IfOk, IsOk, OnErr};
 ghost use Rattle.kv_base.specs.Fault.{HasCause};
 ghost use Rattle.kv_base.specs.Stream.{Stream, Passes, IsSpent};
 ghost use Rattle.kv_base.specs.Memory.{Feed, Reads, SureReads};
@@ -7,7 +8,8 @@ use crate::cursor::Cursor;
 use crate::{Bytes, Calls, Failed, Source};
 use std::marker::Model;
 
-/// A source that holds its bytes in memory and tells them. It fails exactly at the calls on its list.
+/// A source that holds its bytes in memory and tells them. It fails exactly at the calls on its
+/// list.
 #[derive(Debug, Drop)]
 pub struct MemSource {
     cursor: Cursor,
@@ -23,7 +25,13 @@ impl Model for MemSource {
 
     ghost Value = { Feed };
 
-    ghost view = { λ s. record { stream = s.cursor; piece = s.piece; failing = s.failing; calls = s.calls; faults = s.faults } };
+    ghost view = { λ s. record {
+      stream = s.cursor;
+      piece = s.piece;
+      failing = s.failing;
+      calls = s.calls;
+      faults = s.faults;
+    } };
 
     ghost invariant = { λ s. 0 < s.piece };
 }
@@ -32,7 +40,13 @@ impl MemSource {
     /// A source of these bytes. A read gives at most `piece` of them, at least 1. Takes no memory.
     pub fn new(bytes: Bytes, piece: u32, failing: Calls) -> MemSource
         requires { 1 ≤ piece }
-        ensures { result ≡ record { stream = record { taken = []; left = bytes }; piece = piece; failing = failing; calls = 0; faults = 0 } }
+        ensures { result ≡ record {
+          stream = record { taken = []; left = bytes };
+          piece = piece;
+          failing = failing;
+          calls = 0;
+          faults = 0;
+        } }
     {
         MemSource {
             cursor: Cursor::new(bytes),
@@ -52,7 +66,8 @@ impl Source for MemSource {
     fn read(&mut self, buf: &mut [u8]) -> Result<usize, Failed>
         requires { 0 < length buf.old }
         ensures bound { IfOk result (λ n. n ≤ length buf.new) }
-        ensures bytes { IfOk result (λ n. Passes (Some self.old.stream) (Some self.new.stream) (take n buf.new)) }
+        ensures bytes { IfOk result (λ n. Passes (Some self.old.stream) (Some self.new.stream)
+            (take n buf.new)) }
         ensures end { result ≡ Ok 0 → IsSpent (Some self.new.stream) }
         ensures err { OnErr result (Passes (Some self.old.stream) (Some self.new.stream) []) }
         ensures cause { HasCause self.old.faults self.new.faults result }
@@ -108,7 +123,8 @@ impl Source for SureSource {
     fn read(&mut self, buf: &mut [u8]) -> Result<usize, Failed>
         requires { 0 < length buf.old }
         ensures bound { IfOk result (λ n. n ≤ length buf.new) }
-        ensures bytes { IfOk result (λ n. Passes (Some self.old.stream) (Some self.new.stream) (take n buf.new)) }
+        ensures bytes { IfOk result (λ n. Passes (Some self.old.stream) (Some self.new.stream)
+            (take n buf.new)) }
         ensures end { result ≡ Ok 0 → IsSpent (Some self.new.stream) }
         ensures err { OnErr result (Passes (Some self.old.stream) (Some self.new.stream) []) }
         ensures cause { HasCause 0 0 result }

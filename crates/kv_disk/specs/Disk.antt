@@ -23,9 +23,12 @@ pub record Same (old new : Choices) : Type 0 where
   pub no_more : NoMore old new
   pub no_less : NoMore new old
 
--- a write of a page: besides what could be left before, only this content at this page, and after Ok that too
-pub record Adds {T E : Type 0} (file page : ℕ) (content : List ℕ) (result : Result T E) (old new : Choices) : Type 0 where
-  pub no_more : (f p : ℕ) (c : List ℕ) → new f p c → old f p c ⊎ ((f ≡ file) × (p ≡ page) × (c ≡ content))
+-- a write of a page: besides what could be left before, only this content at this page, and after
+-- Ok that too
+pub record Adds {T E : Type 0} (file page : ℕ) (content : List ℕ) (result : Result T E)
+    (old new : Choices) : Type 0 where
+  pub no_more : (f p : ℕ) (c : List ℕ) → new f p c → old f p c ⊎ ((f ≡ file) × (p ≡ page)
+      × (c ≡ content))
   pub no_less : NoMore new old
   pub written : (c : List ℕ) → old file page c → OnOk result (new file page content)
 
@@ -33,13 +36,15 @@ pub record Adds {T E : Type 0} (file page : ℕ) (content : List ℕ) (result : 
 abbrev pub WrittenOrNot : ℕ → ℕ → List ℕ → Image → Image → Type 0
 WrittenOrNot file page content old new = (new ≡ old) ⊎ (new ≡ with_page old file page content)
 
--- one more call was counted, and what could be left at earlier moments stays; the count stops at the greatest of its type
+-- one more call was counted, and what could be left at earlier moments stays; the count stops at
+-- the greatest of its type
 pub record Advances (before now : ℕ) (past since : ℕ → Choices) : Type 0 where
   pub later : before ≤ now
   pub counted : now ≡ min (before + 1) (2 ^ 64 - 1)
   pub same : (t : ℕ) → t ≤ before → Same (past t) (since t)
 
--- at each moment from one to another a crash leaves only images that have P, and what could be left at earlier ones stays
+-- at each moment from one to another a crash leaves only images that have P, and what could be left
+-- at earlier ones stays
 pub record LeavesOnly (from to : ℕ) (past since : ℕ → Choices) (P : Image → Type 0) : Type 0 where
   pub later : from ≤ to
   pub each : (t : ℕ) → from ≤ t → t ≤ to → (image : Image) → MayLeave (since t) image → P image

@@ -1,5 +1,7 @@
 -- A disk in memory that keeps its calls, and what a crash may leave of it.
-use Rattle.std.specs.Prelude.{◌≡◌, ℕ, ◌^◌, ◌≤◌, ◌<◌, ◌&&◌, ◌⊎◌, ◌↔◌, nat_le, Bool, List, [], ◌∷◌, ◌++◌, length, map, min, take, Result, IsErr, IsNone, is_none, is_ok, is_err, Contains, if◌then◌else◌}
+use Rattle.std.specs.Prelude.{◌≡◌, ℕ, ◌^◌, ◌≤◌, ◌<◌, ◌&&◌, ◌⊎◌, ◌↔◌, nat_le, Bool, List, [], ◌∷◌}
+use Rattle.std.specs.Prelude.{◌++◌, length, map, min, take, Result, IsErr, IsNone, is_none, is_ok}
+use Rattle.std.specs.Prelude.{is_err, Contains, if◌then◌else◌}
 use Rattle.kv_base.specs.Calls.{next_count}
 use Rattle.kv_base.specs.Image.{Image}
 use Rattle.kv_disk.specs.Disk.{Choices}
@@ -7,9 +9,11 @@ use Rattle.kv_disk.specs.declared.call.Held.{Held}
 use Rattle.kv_disk.specs.declared.call.Spot.{Spot}
 use Rattle.kv_disk.specs.declared.call.Call.{Call}
 use Rattle.kv_disk.specs.declared.call.Call.TheVariants.{Write, Sync, Idle}
-use Rattle.kv_disk.specs.Replay.{place_in, spot, spot_of, held_with, put_at, Left, left_in, spots_in, settled_in}
+use Rattle.kv_disk.specs.Replay.{place_in, spot, spot_of, held_with, put_at, Left, left_in}
+use Rattle.kv_disk.specs.Replay.{spots_in, settled_in}
 
--- the pages before the first call, the calls in order as far as their room goes, the rooms for pages and for calls, the numbers of the calls that fail, and the counts
+-- the pages before the first call, the calls in order as far as their room goes, the rooms for
+-- pages and for calls, the numbers of the calls that fail, and the counts
 pub record Tape : Type 0 where
   pub pages : List Held
   pub log : List Call
@@ -49,11 +53,13 @@ IsFull disk f p = IsNone (place_in (spots_of disk) f p) × (disk.page_room ≤ l
 
 -- the same as a test
 abbrev pub is_full : Tape → ℕ → ℕ → Bool
-is_full disk f p = is_none (place_in (spots_of disk) f p) && nat_le disk.page_room (length (spots_of disk))
+is_full disk f p = is_none (place_in (spots_of disk) f p) && nat_le disk.page_room
+    (length (spots_of disk))
 
 -- a call was counted, and is kept on the list of calls where there is room; all else stays
 pub record Keeps {T E : Type 0} (call : Call) (old new : Tape) (result : Result T E) : Type 0 where
-  pub log : new.log ≡ (if nat_le old.call_room (length old.log) then old.log else old.log ++ call ∷ [])
+  pub log : new.log ≡ (if nat_le old.call_room (length old.log) then old.log
+      else old.log ++ call ∷ [])
   pub pages : new.pages ≡ old.pages
   pub page_room : new.page_room ≡ old.page_room
   pub call_room : new.call_room ≡ old.call_room
@@ -61,20 +67,26 @@ pub record Keeps {T E : Type 0} (call : Call) (old new : Tape) (result : Result 
   pub calls : new.calls ≡ next_count old.calls
   pub faults : new.faults ≡ (if is_err result then next_count old.faults else old.faults)
 
--- a read or a length: it fails exactly at a listed call and past the room for calls, and changes nothing else
+-- a read or a length: it fails exactly at a listed call and past the room for calls, and changes
+-- nothing else
 pub record Looks {T E : Type 0} (old new : Tape) (result : Result T E) : Type 0 where
   pub failed : IsErr result ↔ (IsPast old ⊎ IsListed old)
   pub kept : Keeps Idle old new result
 
--- a sync: it fails exactly at a listed call and past the room for calls, and then changes nothing else
+-- a sync: it fails exactly at a listed call and past the room for calls, and then changes nothing
+-- else
 pub record Syncs {T E : Type 0} (old new : Tape) (result : Result T E) : Type 0 where
   pub failed : IsErr result ↔ (IsPast old ⊎ IsListed old)
   pub kept : Keeps (if is_ok result then Sync else Idle) old new result
 
--- a write: it fails exactly at a listed call and where a room is spent; where a room is spent it changes the counts alone
-pub record Writes {T E : Type 0} (file page : ℕ) (content : List ℕ) (old new : Tape) (result : Result T E) : Type 0 where
+-- a write: it fails exactly at a listed call and where a room is spent; where a room is spent it
+-- changes the counts alone
+pub record Writes {T E : Type 0} (file page : ℕ) (content : List ℕ) (old new : Tape)
+    (result : Result T E) : Type 0 where
   pub failed : IsErr result ↔ (IsPast old ⊎ (IsFull old file page ⊎ IsListed old))
-  pub kept : Keeps (if is_full old file page then Idle else Write (record { file = file; page = page; content = content; done = is_ok result })) old new result
+  pub kept : Keeps (if is_full old file page then Idle
+      else Write (record { file = file; page = page; content = content; done = is_ok result })) old
+      new result
 
 -- its list of calls is as long as its count of calls and its room allow
 abbrev pub IsCounted : Tape → Type 0
@@ -82,14 +94,27 @@ IsCounted disk = length disk.log ≡ min disk.calls disk.call_room
 
 -- a disk in memory on which a page was put, synced at once
 abbrev pub with_held : Tape → ℕ → ℕ → List ℕ → Tape
-with_held disk file page content = record disk { pages = put_at disk.pages (held_with (spot file page) content) (place_in (map spot_of disk.pages) file page) }
+with_held disk file page content =
+    record disk {
+      pages = put_at disk.pages (held_with (spot file page) content)
+          (place_in (map spot_of disk.pages) file page);
+    }
 
 -- a disk in memory after a crash
 abbrev pub crashed : Tape → ℕ → List ℕ → Tape
 crashed disk moment choice =
-    record { pages = settled_in disk.pages (take moment disk.log) choice; log = []; page_room = disk.page_room; call_room = disk.call_room; failing = []; calls = 0; faults = 0 }
+    record {
+      pages = settled_in disk.pages (take moment disk.log) choice;
+      log = [];
+      page_room = disk.page_room;
+      call_room = disk.call_room;
+      failing = [];
+      calls = 0;
+      faults = 0;
+    }
 
--- its list of calls is as long as its count of calls and its room allow, and its numbers are those of their types
+-- its list of calls is as long as its count of calls and its room allow, and its numbers are those
+-- of their types
 pub record IsTape (disk : Tape) : Type 0 where
   pub counted : IsCounted disk
   pub room : disk.call_room < 2 ^ 32

@@ -1,11 +1,14 @@
 -- A disk in memory that keeps its pages alone.
-use Rattle.std.specs.Prelude.{◌≡◌, ℕ, ◌+◌, ◌≤◌, ◌==◌, ◌&&◌, ◌↔◌, List, length, Option, None, Some, Result, IsErr, IsNone, OnErr, OnOk, is_none, is_err, slice_index_or, if◌then◌else◌}
+use Rattle.std.specs.Prelude.{◌≡◌, ℕ, ◌+◌, ◌≤◌, ◌==◌, ◌&&◌, ◌↔◌, List, length, Option, None, Some}
+use Rattle.std.specs.Prelude.{Result, IsErr, IsNone, OnErr, OnOk, is_none, is_err, slice_index_or}
+use Rattle.std.specs.Prelude.{if◌then◌else◌}
 use Rattle.std.specs.Map.{lookup}
 use Rattle.kv_base.specs.Calls.{next_count}
 use Rattle.kv_base.specs.Image.{Image, zero_page}
 use Rattle.kv_disk.specs.Disk.{Choices}
 
--- contents that were written, the place among them of each page by file and page, the room for pages, and the counts of calls and faults
+-- contents that were written, the place among them of each page by file and page, the room for
+-- pages, and the counts of calls and faults
 pub record Plain : Type 0 where
   pub places : List ((ℕ × ℕ) × ℕ)
   pub contents : List (List ℕ)
@@ -34,11 +37,15 @@ no_choices t f p c = ⊥
 abbrev pub Counts : Plain → Plain → Type 0
 Counts old new = new ≡ record old { calls = next_count old.calls }
 
--- a write fails exactly where the page is new and the room is spent, and then changes the counts alone
-pub record PlainWrites {T E : Type 0} (file page : ℕ) (old new : Plain) (result : Result T E) : Type 0 where
-  pub failed : IsErr result ↔ (IsNone (place_of old.places file page) × (old.room ≤ length old.contents))
+-- a write fails exactly where the page is new and the room is spent, and then changes the counts
+-- alone
+pub record PlainWrites {T E : Type 0} (file page : ℕ) (old new : Plain) (result : Result T E) : Type
+    0 where
+  pub failed : IsErr result ↔ (IsNone (place_of old.places file page)
+      × (old.room ≤ length old.contents))
   pub kept : OnErr result ((new.places ≡ old.places) × (new.contents ≡ old.contents))
-  pub held : OnOk result (length new.contents ≡ length old.contents + (if is_none (place_of old.places file page) then 1 else 0))
+  pub held : OnOk result (length new.contents ≡ length old.contents
+      + (if is_none (place_of old.places file page) then 1 else 0))
   pub room : new.room ≡ old.room
   pub calls : new.calls ≡ next_count old.calls
   pub faults : new.faults ≡ (if is_err result then next_count old.faults else old.faults)

@@ -1,5 +1,8 @@
 -- What the calls of a disk in memory leave, from its pages before the first call.
-use Rattle.std.specs.Prelude.{ℕ, ◌+◌, ◌-◌, ◌%◌, ◌^◌, ◌<◌, ◌==◌, ◌&&◌, ◌||◌, nat_lt, Bool, List, [], ◌∷◌, ◌++◌, length, map, filter, fold, count_by, position, Option, None, Some, slice_set, is_some, slice_index, slice_index_or, ⊤, if◌then◌else◌}
+use Rattle.std.specs.Prelude.{ℕ, ◌+◌, ◌-◌, ◌%◌, ◌^◌, ◌<◌, ◌==◌, ◌&&◌, ◌||◌, nat_lt, Bool, List, []}
+use Rattle.std.specs.Prelude.{◌∷◌, ◌++◌, length, map, filter, fold, count_by, position, Option}
+use Rattle.std.specs.Prelude.{None, Some, slice_set, is_some, slice_index, slice_index_or, ⊤}
+use Rattle.std.specs.Prelude.{if◌then◌else◌}
 use Rattle.kv_base.specs.Image.{zero_page}
 use Rattle.kv_disk.specs.declared.call.Held.{Held}
 use Rattle.kv_disk.specs.declared.call.Spot.{Spot}
@@ -25,9 +28,11 @@ held_with s c = record { file = s.file; page = s.page; content = c }
 -- the content of a page before the first call
 abbrev pub start_of : List Held → ℕ → ℕ → List ℕ
 start_of [] f p = zero_page
-start_of (held ∷ pages) f p = if (held.file == f) && (held.page == p) then held.content else start_of pages f p
+start_of (held ∷ pages) f p = if (held.file == f) && (held.page == p) then held.content
+    else start_of pages f p
 
--- what one page reads as, and what a crash may leave of it: the synced content, and then each write since
+-- what one page reads as, and what a crash may leave of it: the synced content, and then each write
+-- since
 pub record Left : Type 0 where
   pub seen : List ℕ
   pub contents : List (List ℕ)
@@ -39,7 +44,11 @@ durable content = record { seen = content; contents = content ∷ [] }
 -- one page after a call
 abbrev pub after_call : ℕ → ℕ → Left → Call → Left
 after_call f p left (Write w) =
-    if (w.file == f) && (w.page == p) then record { seen = if w.done then w.content else left.seen; contents = left.contents ++ w.content ∷ [] } else left
+    if (w.file == f) && (w.page == p) then record {
+      seen = if w.done then w.content
+          else left.seen;
+      contents = left.contents ++ w.content ∷ [];
+    } else left
 after_call f p left Sync = durable left.seen
 after_call f p left Idle = left
 
@@ -49,7 +58,8 @@ left_in pages log f p = fold (after_call f p) (durable (start_of pages f p)) log
 
 -- the pages that are held after a call; a page that is new comes last
 abbrev pub spots_after : List Spot → Call → List Spot
-spots_after spots (Write w) = if is_some (place_in spots w.file w.page) then spots else spots ++ spot w.file w.page ∷ []
+spots_after spots (Write w) = if is_some (place_in spots w.file w.page) then spots
+    else spots ++ spot w.file w.page ∷ []
 spots_after spots Sync = spots
 spots_after spots Idle = spots
 
@@ -69,7 +79,8 @@ waiting_in pages log = filter (is_waiting pages log) (spots_in pages log)
 abbrev pub comes_before : ℕ → ℕ → Spot → Bool
 comes_before f p s = nat_lt s.file f || ((s.file == f) && nat_lt s.page p)
 
--- what a crash leaves of a page: the j-th page of those waiting, by file and page, takes the j-th choice
+-- what a crash leaves of a page: the j-th page of those waiting, by file and page, takes the j-th
+-- choice
 abbrev pub chosen_in : List Held → List Call → List ℕ → ℕ → ℕ → List ℕ
 chosen_in pages log choice f p =
     let contents = (left_in pages log f p).contents in
@@ -78,11 +89,13 @@ chosen_in pages log choice f p =
 
 -- the pages that a crash leaves
 abbrev pub settled_in : List Held → List Call → List ℕ → List Held
-settled_in pages log choice = map (λ s. held_with s (chosen_in pages log choice s.file s.page)) (spots_in pages log)
+settled_in pages log choice = map (λ s. held_with s (chosen_in pages log choice s.file s.page))
+    (spots_in pages log)
 
 -- one past the last held page of a file, and 0 where there is none
 abbrev pub length_in : List Spot → ℕ → ℕ
-length_in spots f = fold (λ longest s. if (s.file == f) && nat_lt longest (s.page + 1) then s.page + 1 else longest) 0 spots
+length_in spots f = fold (λ longest s. if (s.file == f) && nat_lt longest (s.page + 1)
+    then s.page + 1 else longest) 0 spots
 
 -- a page of a disk
 abbrev pub SpotFits : Spot → Type 0

@@ -1,7 +1,9 @@
-ghost use Rattle.std.specs.Prelude.{◌≡◌, ℕ, ◌-◌, ◌^◌, ◌≤◌, ◌<◌, Bool, List, IsTrue, IfOk, OnOk, OnErr};
+ghost use Rattle.std.specs.Prelude.{◌≡◌, ℕ, ◌-◌, ◌^◌, ◌≤◌, ◌<◌, Bool, List, IsTrue, IfOk, OnOk};
+ghost use Rattle.std.specs.Prelude.{OnErr};
 ghost use Rattle.kv_base.specs.Fault.{HasCause};
 ghost use Rattle.kv_base.specs.Image.{Image, zero_page, with_page};
-ghost use Rattle.kv_disk.specs.Disk.{Choices, MayLeave, Only, NoMore, Same, Adds, WrittenOrNot, Advances};
+ghost use Rattle.kv_disk.specs.Disk.{Choices, MayLeave, Only, NoMore, Same, Adds, WrittenOrNot};
+ghost use Rattle.kv_disk.specs.Disk.{Advances};
 
 use kv_base::Failed;
 
@@ -17,7 +19,8 @@ pub trait Disk {
     /// What it reads as.
     ghost seen: { Self → Image };
 
-    /// What a crash at a moment may leave of each page. A disk that doesn't tell what it reads leaves none.
+    /// What a crash at a moment may leave of each page. A disk that doesn't tell what it reads
+    /// leaves none.
     ghost leaves: { Self → ℕ → Choices };
 
     /// The number of calls so far.
@@ -33,7 +36,8 @@ pub trait Disk {
         ensures content { IsTrue tells → OnOk result (buf.new ≡ seen self.old file page) }
         ensures seen { IsTrue tells → seen self.new ≡ seen self.old }
         ensures crash { Same (leaves self.old (calls self.old)) (leaves self.new (calls self.new)) }
-        ensures past { Advances (calls self.old) (calls self.new) (leaves self.old) (leaves self.new) }
+        ensures past { Advances (calls self.old) (calls self.new) (leaves self.old)
+            (leaves self.new) }
         ensures cause { HasCause (faults self.old) (faults self.new) result };
 
     /// Writes a page, which then reads as the content. After `Failed`, which the count of faults
@@ -41,10 +45,14 @@ pub trait Disk {
     fn write(&mut self, file: u8, page: u32, content: &[u8; 4096]) -> Result<(), Failed>
         requires file { file ≤ 13 }
         requires page { page < 2 ^ 32 - 1 }
-        ensures written { IsTrue tells → OnOk result (seen self.new ≡ with_page (seen self.old) file page content.now) }
-        ensures seen { IsTrue tells → WrittenOrNot file page content.now (seen self.old) (seen self.new) }
-        ensures crash { Adds file page content.now result (leaves self.old (calls self.old)) (leaves self.new (calls self.new)) }
-        ensures past { Advances (calls self.old) (calls self.new) (leaves self.old) (leaves self.new) }
+        ensures written { IsTrue tells
+            → OnOk result (seen self.new ≡ with_page (seen self.old) file page content.now) }
+        ensures seen { IsTrue tells
+            → WrittenOrNot file page content.now (seen self.old) (seen self.new) }
+        ensures crash { Adds file page content.now result (leaves self.old (calls self.old))
+            (leaves self.new (calls self.new)) }
+        ensures past { Advances (calls self.old) (calls self.new) (leaves self.old)
+            (leaves self.new) }
         ensures cause { HasCause (faults self.old) (faults self.new) result };
 
     /// Makes all writes so far durable: a crash leaves just what is read. After `Failed`, which the
@@ -52,21 +60,26 @@ pub trait Disk {
     fn sync(&mut self) -> Result<(), Failed>
         ensures seen { IsTrue tells → seen self.new ≡ seen self.old }
         ensures durable { OnOk result (Only (seen self.new) (leaves self.new (calls self.new))) }
-        ensures undone { OnErr result (Same (leaves self.old (calls self.old)) (leaves self.new (calls self.new))) }
+        ensures undone { OnErr result (Same (leaves self.old (calls self.old))
+            (leaves self.new (calls self.new))) }
         ensures crash { NoMore (leaves self.old (calls self.old)) (leaves self.new (calls self.new)) }
-        ensures past { Advances (calls self.old) (calls self.new) (leaves self.old) (leaves self.new) }
+        ensures past { Advances (calls self.old) (calls self.new) (leaves self.old)
+            (leaves self.new) }
         ensures cause { HasCause (faults self.old) (faults self.new) result };
 
     /// A number of pages of the file, such that every page at or past it is zero.
     fn length(&mut self, file: u8) -> Result<u32, Failed>
         requires { file ≤ 13 }
-        ensures rest { IsTrue tells → IfOk result (λ pages. (p : ℕ) → pages ≤ p → seen self.old file p ≡ zero_page) }
+        ensures rest { IsTrue tells → IfOk result (λ pages. (p : ℕ) → pages ≤ p
+            → seen self.old file p ≡ zero_page) }
         ensures seen { IsTrue tells → seen self.new ≡ seen self.old }
         ensures crash { Same (leaves self.old (calls self.old)) (leaves self.new (calls self.new)) }
-        ensures past { Advances (calls self.old) (calls self.new) (leaves self.old) (leaves self.new) }
+        ensures past { Advances (calls self.old) (calls self.new) (leaves self.old)
+            (leaves self.new) }
         ensures cause { HasCause (faults self.old) (faults self.new) result };
 
     /// Where a content of a page may be left at some moment, the type tells what it reads, and a
     /// crash now may leave what is read.
-    ghost told: { (disk : Self) (t f p : ℕ) (c : List ℕ) → leaves disk t f p c → IsTrue tells × MayLeave (leaves disk (calls disk)) (seen disk) };
+    ghost told: { (disk : Self) (t f p : ℕ) (c : List ℕ) → leaves disk t f p c → IsTrue tells
+        × MayLeave (leaves disk (calls disk)) (seen disk) };
 }

@@ -1,10 +1,14 @@
-ghost use Rattle.std.specs.Prelude.{◌≡◌, ℕ, ◌+◌, ◌-◌, ◌^◌, ◌≤◌, ◌<◌, ◌↔◌, ◌⊎◌, is_ok, IsErr, ◌∷◌, ◌++◌, [], true, false, refl, not, nat_le, min, is_some, List, length, vec_len, vec_capacity, Option, IsTrue, IsOk, IsNone, IfOk, IfSome, IfNone, OnOk, OnErr, if◌then◌else◌};
+ghost use Rattle.std.specs.Prelude.{◌≡◌, ℕ, ◌+◌, ◌-◌, ◌^◌, ◌≤◌, ◌<◌, ◌↔◌, ◌⊎◌, is_ok, IsErr, ◌∷◌};
+ghost use Rattle.std.specs.Prelude.{◌++◌, [], true, false, refl, not, nat_le, min, is_some, List};
+ghost use Rattle.std.specs.Prelude.{length, vec_len, vec_capacity, Option, IsTrue, IsOk, IsNone};
+ghost use Rattle.std.specs.Prelude.{IfOk, IfSome, IfNone, OnOk, OnErr, if◌then◌else◌};
 ghost use Rattle.kv_base.specs.Fault.{HasCause};
 ghost use Rattle.kv_base.specs.Image.{zero_page, with_page};
 ghost use Rattle.kv_disk.specs.Disk.{MayLeave, Only, NoMore, Same, Adds, WrittenOrNot, Advances};
 ghost use Rattle.kv_disk.specs.Plain.{content_at};
 ghost use Rattle.kv_disk.specs.Replay.{place_in, spot, length_in, IsNoWrite};
-ghost use Rattle.kv_disk.specs.Memory.{image_of, choices_of, spots_of, is_full, with_held, crashed, Keeps, IsPast, IsListed, Looks, Syncs, Writes, IsTape};
+ghost use Rattle.kv_disk.specs.Memory.{image_of, choices_of, spots_of, is_full, with_held, crashed};
+ghost use Rattle.kv_disk.specs.Memory.{Keeps, IsPast, IsListed, Looks, Syncs, Writes, IsTape};
 ghost use Rattle.kv_disk.specs.Told.{seen_is_left};
 ghost use Rattle.kv_disk.specs.declared.call.Call.TheVariants.{Sync, Idle};
 
@@ -17,7 +21,8 @@ use std::marker::Model;
 static ZEROS: [u8; 4096] = [0; 4096];
 
 /// A disk in memory that keeps its calls, tells what it reads, and can be crashed at each moment.
-/// It fails exactly at the calls on its list and where a room is spent. Only `new` and `crash` take memory.
+/// It fails exactly at the calls on its list and where a room is spent. Only `new` and `crash` take
+/// memory.
 #[derive(Drop)]
 pub struct MemDisk {
     alloc: Global,
@@ -38,15 +43,25 @@ impl Model for MemDisk {
 
     ghost Value = { Tape };
 
-    ghost view = { λ d. record { pages = d.start.items; log = d.log.items; page_room = d.page_room; call_room = d.call_room; failing = d.failing; calls = d.calls; faults = d.faults } };
+    ghost view = { λ d. record {
+      pages = d.start.items;
+      log = d.log.items;
+      page_room = d.page_room;
+      call_room = d.call_room;
+      failing = d.failing;
+      calls = d.calls;
+      faults = d.faults;
+    } };
 
-    ghost invariant = { λ d. IsMemory d.start d.spots d.contents d.log d.page_room d.call_room d.calls };
+    ghost invariant = { λ d. IsMemory d.start d.spots d.contents d.log d.page_room d.call_room
+        d.calls };
 }
 
 // Keeps a call where there is room.
 fn note(log: &mut Vec<Call>, room: u32, call: Call)
     requires { room ≤ vec_capacity log.old }
-    ensures items { log.new.items ≡ (if nat_le room (length log.old.items) then log.old.items else log.old.items ++ call ∷ []) }
+    ensures items { log.new.items ≡ (if nat_le room (length log.old.items) then log.old.items
+        else log.old.items ++ call ∷ []) }
     ensures capacity { vec_capacity log.old ≤ vec_capacity log.new }
 {
     if log.len() < room as usize {
@@ -65,11 +80,16 @@ fn hold(
     requires spots { room ≤ vec_capacity spots.old }
     requires contents { room ≤ vec_capacity contents.old }
     requires as_many { length contents.old.items ≡ length spots.old.items }
-    ensures none { IsNone result ↔ (IsNone (place_in spots.old.items file page) × (room ≤ length spots.old.items)) }
-    ensures kept { IfNone result ((spots.new.items ≡ spots.old.items) × (contents.new.items ≡ contents.old.items)) }
+    ensures none { IsNone result ↔ (IsNone (place_in spots.old.items file page)
+        × (room ≤ length spots.old.items)) }
+    ensures kept { IfNone result ((spots.new.items ≡ spots.old.items)
+        × (contents.new.items ≡ contents.old.items)) }
     ensures place { IfSome result (λ place. place_in spots.new.items file page ≡ Some place) }
-    ensures held { IfSome result (λ _. spots.new.items ≡ (if is_some (place_in spots.old.items file page) then spots.old.items else spots.old.items ++ spot file page ∷ [])) }
-    ensures reads { (f p : ℕ) → content_at contents.new.items (place_in spots.new.items f p) ≡ content_at contents.old.items (place_in spots.old.items f p) }
+    ensures held { IfSome result (λ _. spots.new.items
+        ≡ (if is_some (place_in spots.old.items file page) then spots.old.items
+        else spots.old.items ++ spot file page ∷ [])) }
+    ensures reads { (f p : ℕ) → content_at contents.new.items (place_in spots.new.items f p)
+        ≡ content_at contents.old.items (place_in spots.old.items f p) }
     ensures as_many { length contents.new.items ≡ length spots.new.items }
     ensures spots_room { vec_capacity spots.old ≤ vec_capacity spots.new }
     ensures contents_room { vec_capacity contents.old ≤ vec_capacity contents.new }
@@ -87,11 +107,20 @@ fn hold(
 }
 
 impl MemDisk {
-    /// A disk of zeros with room for so many different pages and for so many calls, which it takes at
-    /// once. A call past its room fails and changes the counts alone; so does a write of a page past
-    /// the room for pages. A write at a call on the list fails, and a crash may leave its content.
+    /// A disk of zeros with room for so many different pages and for so many calls, which it takes
+    /// at once. A call past its room fails and changes the counts alone; so does a write of a page
+    /// past the room for pages. A write at a call on the list fails, and a crash may leave its
+    /// content.
     pub fn new(alloc: Global, pages: u32, calls: u32, failing: Calls) -> Result<MemDisk, NoMemory>
-        ensures ok { IfOk result (λ disk. disk ≡ record { pages = []; log = []; page_room = pages; call_room = calls; failing = failing; calls = 0; faults = 0 }) }
+        ensures ok { IfOk result (λ disk. disk ≡ record {
+          pages = [];
+          log = [];
+          page_room = pages;
+          call_room = calls;
+          failing = failing;
+          calls = 0;
+          faults = 0;
+        }) }
         ensures durable { IfOk result (λ disk. Only (image_of disk) (choices_of disk disk.calls)) }
         ensures some { IfOk result (λ disk. MayLeave (choices_of disk disk.calls) (image_of disk)) }
     {
@@ -199,8 +228,9 @@ impl MemDisk {
         replay::length_of(&self.spots, file)
     }
 
-    /// Puts the content on a page, synced at once and counted as no call. Only before the first call.
-    /// False exactly where the page isn't held and the room for pages is spent; then all stays.
+    /// Puts the content on a page, synced at once and counted as no call. Only before the first
+    /// call. False exactly where the page isn't held and the room for pages is spent; then all
+    /// stays.
     pub fn set_page(&mut self, file: u8, page: u32, content: &[u8; 4096]) -> bool
         requires file { file ≤ 13 }
         requires page { page < 2 ^ 32 - 1 }
@@ -208,7 +238,8 @@ impl MemDisk {
         ensures held { result ≡ not (is_full self.old file page) }
         ensures put { IsTrue result → self.new ≡ with_held self.old file page content.now }
         ensures kept { result ≡ false → self.new ≡ self.old }
-        ensures written { IsTrue result → image_of self.new ≡ with_page (image_of self.old) file page content.now }
+        ensures written { IsTrue result → image_of self.new ≡ with_page (image_of self.old) file
+            page content.now }
         ensures durable { Only (image_of self.new) (choices_of self.new self.new.calls) }
         ensures some { MayLeave (choices_of self.new self.new.calls) (image_of self.new) }
     {
@@ -236,9 +267,10 @@ impl MemDisk {
     }
 
     /// The disk that a crash at the moment leaves: over the pages with writes since the last sync
-    /// before it, by file and page, the j-th page gets its synced content where choice j, cut to their
-    /// number, is 0, and else its m-th such write. A choice that isn't there is 0. The new disk has the
-    /// same rooms, no failing calls and no call so far. The moment is at most the number of calls.
+    /// before it, by file and page, the j-th page gets its synced content where choice j, cut to
+    /// their number, is 0, and else its m-th such write. A choice that isn't there is 0. The new
+    /// disk has the same rooms, no failing calls and no call so far. The moment is at most the
+    /// number of calls.
     pub fn crash(&self, moment: u32, choice: &[u32]) -> Result<MemDisk, NoMemory>
         requires { moment ≤ self.now.calls }
         ensures ok { IfOk result (λ disk. disk ≡ crashed self.now moment choice.now) }
@@ -292,8 +324,10 @@ impl Disk for MemDisk {
         requires page { page < 2 ^ 32 - 1 }
         ensures content { IsTrue true → OnOk result (buf.new ≡ image_of self.old file page) }
         ensures seen { IsTrue true → image_of self.new ≡ image_of self.old }
-        ensures crash { Same (choices_of self.old self.old.calls) (choices_of self.new self.new.calls) }
-        ensures past { Advances self.old.calls self.new.calls (choices_of self.old) (choices_of self.new) }
+        ensures crash { Same (choices_of self.old self.old.calls)
+            (choices_of self.new self.new.calls) }
+        ensures past { Advances self.old.calls self.new.calls (choices_of self.old)
+            (choices_of self.new) }
         ensures cause { HasCause self.old.faults self.new.faults result }
 
         // exactly when it fails, and what stays
@@ -307,10 +341,14 @@ impl Disk for MemDisk {
     fn write(&mut self, file: u8, page: u32, content: &[u8; 4096]) -> Result<(), Failed>
         requires file { file ≤ 13 }
         requires page { page < 2 ^ 32 - 1 }
-        ensures written { IsTrue true → OnOk result (image_of self.new ≡ with_page (image_of self.old) file page content.now) }
-        ensures seen { IsTrue true → WrittenOrNot file page content.now (image_of self.old) (image_of self.new) }
-        ensures crash { Adds file page content.now result (choices_of self.old self.old.calls) (choices_of self.new self.new.calls) }
-        ensures past { Advances self.old.calls self.new.calls (choices_of self.old) (choices_of self.new) }
+        ensures written { IsTrue true
+            → OnOk result (image_of self.new ≡ with_page (image_of self.old) file page content.now) }
+        ensures seen { IsTrue true → WrittenOrNot file page content.now (image_of self.old)
+            (image_of self.new) }
+        ensures crash { Adds file page content.now result (choices_of self.old self.old.calls)
+            (choices_of self.new self.new.calls) }
+        ensures past { Advances self.old.calls self.new.calls (choices_of self.old)
+            (choices_of self.new) }
         ensures cause { HasCause self.old.faults self.new.faults result }
 
         // exactly when it fails, and what stays
@@ -321,10 +359,14 @@ impl Disk for MemDisk {
 
     fn sync(&mut self) -> Result<(), Failed>
         ensures seen { IsTrue true → image_of self.new ≡ image_of self.old }
-        ensures durable { OnOk result (Only (image_of self.new) (choices_of self.new self.new.calls)) }
-        ensures undone { OnErr result (Same (choices_of self.old self.old.calls) (choices_of self.new self.new.calls)) }
-        ensures crash { NoMore (choices_of self.old self.old.calls) (choices_of self.new self.new.calls) }
-        ensures past { Advances self.old.calls self.new.calls (choices_of self.old) (choices_of self.new) }
+        ensures durable { OnOk result (Only (image_of self.new)
+            (choices_of self.new self.new.calls)) }
+        ensures undone { OnErr result (Same (choices_of self.old self.old.calls)
+            (choices_of self.new self.new.calls)) }
+        ensures crash { NoMore (choices_of self.old self.old.calls)
+            (choices_of self.new self.new.calls) }
+        ensures past { Advances self.old.calls self.new.calls (choices_of self.old)
+            (choices_of self.new) }
         ensures cause { HasCause self.old.faults self.new.faults result }
 
         // exactly when it fails, and what stays
@@ -335,10 +377,13 @@ impl Disk for MemDisk {
 
     fn length(&mut self, file: u8) -> Result<u32, Failed>
         requires { file ≤ 13 }
-        ensures rest { IsTrue true → IfOk result (λ pages. (p : ℕ) → pages ≤ p → image_of self.old file p ≡ zero_page) }
+        ensures rest { IsTrue true → IfOk result (λ pages. (p : ℕ) → pages ≤ p
+            → image_of self.old file p ≡ zero_page) }
         ensures seen { IsTrue true → image_of self.new ≡ image_of self.old }
-        ensures crash { Same (choices_of self.old self.old.calls) (choices_of self.new self.new.calls) }
-        ensures past { Advances self.old.calls self.new.calls (choices_of self.old) (choices_of self.new) }
+        ensures crash { Same (choices_of self.old self.old.calls)
+            (choices_of self.new self.new.calls) }
+        ensures past { Advances self.old.calls self.new.calls (choices_of self.old)
+            (choices_of self.new) }
         ensures cause { HasCause self.old.faults self.new.faults result }
 
         // exactly when it fails, what it answers, and what stays

@@ -21,9 +21,12 @@ pub fn write_in_order<D: Disk>(
     requires first { first < 2 ^ 32 - 1 }
     requires second { second < 2 ^ 32 - 1 }
     requires durable { Only (D.seen disk.old) (D.leaves disk.old (D.calls disk.old)) }
-    ensures written { IsTrue D.tells → OnOk result (D.seen disk.new ≡ with_page (with_page (D.seen disk.old) file first one.now) file second two.now) }
+    ensures written { IsTrue D.tells
+        → OnOk result (D.seen disk.new ≡ with_page (with_page (D.seen disk.old) file first one.now)
+        file second two.now) }
     ensures durable { OnOk result (Only (D.seen disk.new) (D.leaves disk.new (D.calls disk.new))) }
-    ensures any_moment { LeavesOnly (D.calls disk.old) (D.calls disk.new) (D.leaves disk.old) (D.leaves disk.new) (IsInOrder (D.seen disk.old) file first one.now second two.now) }
+    ensures any_moment { LeavesOnly (D.calls disk.old) (D.calls disk.new) (D.leaves disk.old)
+        (D.leaves disk.new) (IsInOrder (D.seen disk.old) file first one.now second two.now) }
     ensures cause { HasCause (D.faults disk.old) (D.faults disk.new) result }
 {
     disk.write(file, first, one)?;

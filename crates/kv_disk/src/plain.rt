@@ -1,4 +1,5 @@
-ghost use Rattle.std.specs.Prelude.{◌≡◌, ℕ, ◌+◌, ◌-◌, ◌^◌, ◌≤◌, ◌<◌, true, [], ◌∷◌, ◌++◌, length, vec_len, vec_capacity, IsTrue, IsOk, IfOk, OnOk, OnErr};
+ghost use Rattle.std.specs.Prelude.{◌≡◌, ℕ, ◌+◌, ◌-◌, ◌^◌, ◌≤◌, ◌<◌, true, [], ◌∷◌, ◌++◌, length};
+ghost use Rattle.std.specs.Prelude.{vec_len, vec_capacity, IsTrue, IsOk, IfOk, OnOk, OnErr};
 ghost use Rattle.kv_base.specs.Fault.{HasCause};
 ghost use Rattle.kv_base.specs.Image.{zero_page, with_page};
 ghost use Rattle.kv_disk.specs.Disk.{Only, NoMore, Same, Adds, WrittenOrNot, Advances};
@@ -12,8 +13,8 @@ use std::alloc::Global;
 use std::collections::HashMap;
 use std::marker::Model;
 
-/// A disk in memory that keeps its pages alone and tells what it reads. It tells nothing of crashes.
-/// It fails exactly where its room for pages is spent. No call takes memory.
+/// A disk in memory that keeps its pages alone and tells what it reads. It tells nothing of
+/// crashes. It fails exactly where its room for pages is spent. No call takes memory.
 #[derive(Drop)]
 pub struct PlainDisk {
     places: HashMap<(u8, u32), usize>,
@@ -31,7 +32,13 @@ impl Model for PlainDisk {
 
     ghost use Rattle.kv_disk.specs.PlainFields.{IsPlain};
 
-    ghost view = { λ d. record { places = d.places.entries; contents = d.contents.items; room = d.room; calls = d.calls; faults = d.faults } };
+    ghost view = { λ d. record {
+      places = d.places.entries;
+      contents = d.contents.items;
+      room = d.room;
+      calls = d.calls;
+      faults = d.faults;
+    } };
 
     ghost invariant = { λ d. IsPlain d.places d.contents d.lengths d.room };
 }
@@ -39,7 +46,13 @@ impl Model for PlainDisk {
 impl PlainDisk {
     /// A disk of zeros with room for so many different pages, which it takes at once.
     pub fn new(alloc: Global, pages: u32) -> Result<PlainDisk, NoMemory>
-        ensures ok { IfOk result (λ disk. disk ≡ record { places = []; contents = []; room = pages; calls = 0; faults = 0 }) }
+        ensures ok { IfOk result (λ disk. disk ≡ record {
+          places = [];
+          contents = [];
+          room = pages;
+          calls = 0;
+          faults = 0;
+        }) }
         ensures durable { IfOk result (λ disk. Only (image_of disk) (no_choices disk.calls)) }
     {
         Ok(PlainDisk {
@@ -64,7 +77,8 @@ fn put_new(
     requires absent { place_of places.old.entries file page ≡ None }
     requires places { 0 < spare places.old }
     requires contents { vec_len contents.old < vec_capacity contents.old }
-    ensures placed { Places (place_of places.old.entries) (place_of places.new.entries) file page (length contents.old.items) }
+    ensures placed { Places (place_of places.old.entries) (place_of places.new.entries) file page
+        (length contents.old.items) }
     ensures put { contents.new.items ≡ contents.old.items ++ content.now ∷ [] }
     ensures places_len { hash_map_len places.new ≡ hash_map_len places.old + 1 }
     ensures contents_len { vec_len contents.new ≡ vec_len contents.old + 1 }
@@ -115,9 +129,12 @@ impl Disk for PlainDisk {
     fn write(&mut self, file: u8, page: u32, content: &[u8; 4096]) -> Result<(), Failed>
         requires file { file ≤ 13 }
         requires page { page < 2 ^ 32 - 1 }
-        ensures written { IsTrue true → OnOk result (image_of self.new ≡ with_page (image_of self.old) file page content.now) }
-        ensures seen { IsTrue true → WrittenOrNot file page content.now (image_of self.old) (image_of self.new) }
-        ensures crash { Adds file page content.now result (no_choices self.old.calls) (no_choices self.new.calls) }
+        ensures written { IsTrue true
+            → OnOk result (image_of self.new ≡ with_page (image_of self.old) file page content.now) }
+        ensures seen { IsTrue true → WrittenOrNot file page content.now (image_of self.old)
+            (image_of self.new) }
+        ensures crash { Adds file page content.now result (no_choices self.old.calls)
+            (no_choices self.new.calls) }
         ensures past { Advances self.old.calls self.new.calls no_choices no_choices }
         ensures cause { HasCause self.old.faults self.new.faults result }
 
@@ -156,7 +173,8 @@ impl Disk for PlainDisk {
 
     fn length(&mut self, file: u8) -> Result<u32, Failed>
         requires { file ≤ 13 }
-        ensures rest { IsTrue true → IfOk result (λ pages. (p : ℕ) → pages ≤ p → image_of self.old file p ≡ zero_page) }
+        ensures rest { IsTrue true → IfOk result (λ pages. (p : ℕ) → pages ≤ p
+            → image_of self.old file p ≡ zero_page) }
         ensures seen { IsTrue true → image_of self.new ≡ image_of self.old }
         ensures crash { Same (no_choices self.old.calls) (no_choices self.new.calls) }
         ensures past { Advances self.old.calls self.new.calls no_choices no_choices }

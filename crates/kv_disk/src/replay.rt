@@ -1,6 +1,10 @@
-ghost use Rattle.std.specs.Prelude.{◌≡◌, ℕ, ◌+◌, ◌-◌, ◌%◌, ◌^◌, ◌<◌, ◌≤◌, ◌∷◌, [], List, All, length, map, filter, count_by, slice_index, slice_index_or, vec_len, vec_capacity, IfOk, OnOk};
+ghost use Rattle.std.specs.Prelude.{◌≡◌, ℕ, ◌+◌, ◌-◌, ◌%◌, ◌^◌, ◌<◌, ◌≤◌, ◌∷◌, [], List, All};
+ghost use Rattle.std.specs.Prelude.{length, map, filter, count_by, slice_index, slice_index_or};
+ghost use Rattle.std.specs.Prelude.{vec_len, vec_capacity, IfOk, OnOk};
 ghost use Rattle.kv_base.specs.Image.{zero_page};
-ghost use Rattle.kv_disk.specs.Replay.{place_in, start_of, Left, after_call, left_in, spots_after, spots_in, is_waiting, waiting_in, comes_before, chosen_in, held_with, settled_in, length_in, SpotFits};
+ghost use Rattle.kv_disk.specs.Replay.{place_in, start_of, Left, after_call, left_in, spots_after};
+ghost use Rattle.kv_disk.specs.Replay.{spots_in, is_waiting, waiting_in, comes_before, chosen_in};
+ghost use Rattle.kv_disk.specs.Replay.{held_with, settled_in, length_in, SpotFits};
 
 use crate::call::{Call, Held, Spot};
 use std::alloc::{AllocError, Global};
@@ -33,9 +37,13 @@ fn take_call(
     file: u8,
     page: u32,
 ) -> Result<(), AllocError>
-    ensures contents { OnOk result (left.new.items ≡ (after_call file page (record { seen = seen.old; contents = left.old.items }) call.now).contents) }
+    ensures contents { OnOk result (left.new.items
+        ≡ (after_call file page (record { seen = seen.old; contents = left.old.items })
+        call.now).contents) }
     ensures some { OnOk result (0 < vec_len left.old → 0 < vec_len left.new) }
-    ensures seen { OnOk result (seen.new ≡ (after_call file page (record { seen = seen.old; contents = left.old.items }) call.now).seen) }
+    ensures seen { OnOk result (seen.new
+        ≡ (after_call file page (record { seen = seen.old; contents = left.old.items })
+        call.now).seen) }
 {
     match call {
         Call::Write(write) => {
@@ -55,7 +63,8 @@ fn take_call(
     Ok(())
 }
 
-/// What a crash after these calls may leave of a page: the synced content, and then each write since.
+/// What a crash after these calls may leave of a page: the synced content, and then each write
+/// since.
 pub fn left_after(
     alloc: Global,
     start: &[Held],
@@ -63,7 +72,8 @@ pub fn left_after(
     file: u8,
     page: u32,
 ) -> Result<Vec<[u8; 4096]>, AllocError>
-    ensures items { IfOk result (λ left. left.items ≡ (left_in start.now log.now file page).contents) }
+    ensures items { IfOk result (λ left. left.items
+        ≡ (left_in start.now log.now file page).contents) }
     ensures some { IfOk result (λ left. 0 < vec_len left) }
 {
     let mut seen = content_at_start(start, file, page);
@@ -121,7 +131,8 @@ pub fn waiting(
     log: &[Call],
     spots: &[Spot],
 ) -> Result<Vec<Spot>, AllocError>
-    ensures { IfOk result (λ waiting. waiting.items ≡ filter (is_waiting start.now log.now) spots.now) }
+    ensures { IfOk result (λ waiting. waiting.items ≡ filter (is_waiting start.now log.now)
+        spots.now) }
 {
     let mut waiting = Vec::new(alloc);
     for spot in spots {

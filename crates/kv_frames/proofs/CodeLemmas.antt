@@ -1,18 +1,23 @@
 -- Lemmas on contents that are written and read: those of requests and those of replies.
-use Rattle.std.proofs.Common.{◌≡◌, ℕ, ◌+◌, ◌^◌, ◌<◌, ◌≤◌, List, ◌++◌, length, drop, Option, Some, Bool, true, false, cond, ◌⊎◌, inl, inr, refl, sym, ap, ◌∙◌, arith}
+use Rattle.std.proofs.Common.{◌≡◌, ℕ, ◌+◌, ◌^◌, ◌<◌, ◌≤◌, List, ◌++◌, length, drop, Option, Some}
+use Rattle.std.proofs.Common.{Bool, true, false, cond, ◌⊎◌, inl, inr, refl, sym, ap, ◌∙◌, arith}
 use Rattle.std.proofs.lemmas.List.{length-append}
 use Rattle.kv_model.specs.Frames.{framed, longest_content, IsPartial}
 use Rattle.kv_frames.specs.Cut.{BeginsWithContent, IsOutOfRange}
-use Rattle.kv_frames.proofs.FramingLemmas.{IsBytes, IsBytes-content, framed_once, stated_length-framed}
+use Rattle.kv_frames.proofs.FramingLemmas.{IsBytes, IsBytes-content, framed_once}
+use Rattle.kv_frames.proofs.FramingLemmas.{stated_length-framed}
 
 -- contents of values: how they are written, which values have one, and how they are read
-pub record IsCode (V : Type 0) (content : V → List ℕ) (Has : V → Type 0) (read : List ℕ → Option V) : Type 0 where
+pub record IsCode (V : Type 0) (content : V → List ℕ) (Has : V → Type 0) (read : List ℕ
+    → Option V) : Type 0 where
   pub again : (v : V) → Has v → read (content v) ≡ Some v
-  pub back : (bytes : List ℕ) (v : V) → IsBytes bytes → read bytes ≡ Some v → Has v × (content v ≡ bytes)
+  pub back : (bytes : List ℕ) (v : V) → IsBytes bytes → read bytes ≡ Some v
+      → Has v × (content v ≡ bytes)
   pub some : (v : V) → 1 ≤ length (content v)
 
 -- the bytes begin with a frame of the value
-pub record Begins (V : Type 0) (content : V → List ℕ) (Has : V → Type 0) (bytes : List ℕ) (v : V) (rest : List ℕ) : Type 0 where
+pub record Begins (V : Type 0) (content : V → List ℕ) (Has : V → Type 0) (bytes : List ℕ) (v : V)
+    (rest : List ℕ) : Type 0 where
   pub body : Has v
   pub size : length (content v) ≤ longest_content
   pub parts : bytes ≡ framed (content v) ++ rest
@@ -47,11 +52,13 @@ read_found {content = content} code bytes front v rest begins p =
     let behind = drop (4 + length front) bytes in
     let front_fits : length front < 2 ^ 32 = omega (arith, begins.most) in
     let v_fits : length (content v) < 2 ^ 32 = omega (arith, p.size) in
-    let is = (framed_once front (content v) behind rest front_fits v_fits (sym begins.parts ∙ p.parts)).0 in
+    let is = (framed_once front (content v) behind rest front_fits v_fits (sym begins.parts
+    ∙ p.parts)).0 in
     (rw is (code.again v p.body), ap (λ (b : List ℕ). length b) is)
 
 -- no frame begins bytes that state a length out of range
-pub out_of_range_begins_none : {V : Type 0} {content : V → List ℕ} {Has : V → Type 0} {read : List ℕ → Option V}
+pub out_of_range_begins_none : {V : Type 0} {content : V → List ℕ} {Has : V → Type 0} {read : List ℕ
+    → Option V}
     (code : IsCode V content Has read) (bytes : List ℕ) (v : V) (rest : List ℕ)
     → IsOutOfRange bytes → Begins V content Has bytes v rest → ⊥
 out_of_range_begins_none {content = content} code bytes v rest out p =
@@ -59,7 +66,8 @@ out_of_range_begins_none {content = content} code bytes v rest out p =
     absurd (omega (arith, out.out (rw stated (code.some v)), p.size, stated))
 
 -- no frame begins a part of a frame
-pub partial_begins_none : {V : Type 0} {content : V → List ℕ} {Has : V → Type 0} (bytes : List ℕ) (v : V) (rest : List ℕ)
+pub partial_begins_none : {V : Type 0} {content : V → List ℕ} {Has : V
+    → Type 0} (bytes : List ℕ) (v : V) (rest : List ℕ)
     → IsPartial bytes → Begins V content Has bytes v rest → ⊥
 partial_begins_none {content = content} bytes v rest partial p =
     let stated = stated_length-framed (content v) rest bytes (omega (arith, p.size)) p.parts in

@@ -1,8 +1,11 @@
 -- Lemmas on a length and as many bytes of content.
-use Rattle.std.proofs.Common.{◌≡◌, ℕ, ◌+◌, ◌^◌, ◌<◌, ◌≤◌, List, ◌++◌, length, get_or, take, drop, refl, sym, ap, subst, ◌∙◌, arith, inl, inr}
+use Rattle.std.proofs.Common.{◌≡◌, ℕ, ◌+◌, ◌^◌, ◌<◌, ◌≤◌, List, ◌++◌, length, get_or, take, drop}
+use Rattle.std.proofs.Common.{refl, sym, ap, subst, ◌∙◌, arith, inl, inr}
 use Rattle.std.specs.Int.{w32, to_le_bytes, from_le_bytes}
 use Rattle.std.proofs.lemmas.Bool.{cases_lt}
-use Rattle.std.proofs.lemmas.List.{take_at, drop_at, take-append-drop, drop-drop, length-append, length-take, length-drop, length-take-le, get_or-drop, get_or-take, get_or_past}
+use Rattle.std.proofs.lemmas.List.{take_at, drop_at, take-append-drop, drop-drop, length-append}
+use Rattle.std.proofs.lemmas.List.{length-take, length-drop, length-take-le, get_or-drop}
+use Rattle.std.proofs.lemmas.List.{get_or-take, get_or_past}
 use Rattle.std.proofs.lemmas.Nat.{le_bytes_4, from_le_bytes-to_le_bytes_4}
 use Rattle.kv_model.specs.Frames.{framed, stated_length, longest_content}
 use Rattle.kv_frames.specs.Cut.{BeginsWithContent}
@@ -18,7 +21,8 @@ pub IsBytes-take : (n : ℕ) (bytes : List ℕ) → IsBytes bytes → IsBytes (t
 IsBytes-take n bytes fits i =
     elim (cases_lt i n) [
       | inl lt ↦ rw (get_or-take n bytes i 0 lt) (fits i)
-      | inr le ↦ rw (get_or_past (take n bytes) i 0 (omega (arith, length-take n bytes))) (omega arith)
+      | inr le ↦ rw (get_or_past (take n bytes) i 0 (omega (arith, length-take n bytes)))
+          (omega arith)
     ]
 
 -- frames that begin equal bytes have one content, and one rest is left
@@ -47,7 +51,8 @@ pub content_here : (bytes : List ℕ) (n : ℕ) → IsBytes bytes → n ≡ stat
     → n ≤ longest_content → 4 + n ≤ length bytes → BeginsWithContent bytes (take n (drop 4 bytes))
 content_here bytes n fits is some most long =
     let rest = drop 4 bytes in
-    let size : length (take n rest) ≡ n = length-take-le n rest (omega (arith, length-drop 4 bytes)) in
+    let size : length (take n rest) ≡ n =
+    length-take-le n rest (omega (arith, length-drop 4 bytes)) in
     let four : length (take 4 bytes) ≡ 4 = length-take-le 4 bytes (omega arith) in
     let front : to_le_bytes w32 n ≡ take 4 bytes =
     le_bytes_4 (take 4 bytes) n four (IsBytes-take 4 bytes fits) is in
@@ -56,7 +61,8 @@ content_here bytes n fits is some most long =
     let whole : bytes ≡ to_le_bytes w32 n ++ (take n rest ++ drop (4 + n) bytes) =
     sym (take-append-drop 4 bytes) ∙ ap (λ (b : List ℕ). b ++ rest) (sym front)
     ∙ ap (λ (b : List ℕ). to_le_bytes w32 n ++ b) behind in
-    let Parts : ℕ → Type 0 = λ k. bytes ≡ to_le_bytes w32 k ++ (take n rest ++ drop (4 + k) bytes) in
+    let Parts : ℕ → Type 0 = λ k. bytes ≡ to_le_bytes w32 k
+    ++ (take n rest ++ drop (4 + k) bytes) in
     record { some = omega arith; most = omega arith; parts = subst Parts (sym size) whole }
 
 -- the content's elements are bytes where those of the whole are
@@ -65,7 +71,8 @@ pub IsBytes-content : (bytes content : List ℕ) → IsBytes bytes → BeginsWit
 IsBytes-content bytes content fits begins =
     let n = length content in
     let there = ap (λ (b : List ℕ). take n (drop 4 b)) begins.parts in
-    let is : take n (drop 4 bytes) ≡ content = there ∙ take_at content (drop (4 + n) bytes) n refl in
+    let is : take n (drop 4 bytes) ≡ content = there
+    ∙ take_at content (drop (4 + n) bytes) n refl in
     subst (λ (b : List ℕ). IsBytes b) is (IsBytes-take n (drop 4 bytes) (IsBytes-drop 4 bytes fits))
 
 -- the content is all there

@@ -1,5 +1,7 @@
 -- Lemmas on frames of replies.
-use Rattle.std.proofs.Common.{◌≡◌, ℕ, suc, ◌+◌, ◌^◌, ◌<◌, ◌≤◌, true, cond, List, [], ◌∷◌, ◌++◌, length, take, drop, Option, Some, None, Result, Ok, Err, inl, inr, refl, sym, ap, subst, ◌∙◌, arith, eqb, leb}
+use Rattle.std.proofs.Common.{◌≡◌, ℕ, suc, ◌+◌, ◌^◌, ◌<◌, ◌≤◌, true, cond, List, [], ◌∷◌, ◌++◌}
+use Rattle.std.proofs.Common.{length, take, drop, Option, Some, None, Result, Ok, Err, inl, inr}
+use Rattle.std.proofs.Common.{refl, sym, ap, subst, ◌∙◌, arith, eqb, leb}
 use Rattle.std.specs.Prelude.{OnErr}
 use Rattle.std.specs.Option.{option_and_then}
 use Rattle.std.specs.Int.{w64, to_le_bytes, from_le_bytes}
@@ -7,13 +9,19 @@ use Rattle.std.proofs.lemmas.Bool.{le-leb, leb-true, eqb-true, cases_Bool}
 use Rattle.std.proofs.lemmas.List.{take-append-drop, length-append, length-take-le}
 use Rattle.std.proofs.lemmas.Nat.{le_bytes_8, from_le_bytes-to_le_bytes_8}
 use Rattle.kv_base.specs.declared.reply.Reply.{Reply}
-use Rattle.kv_base.specs.declared.reply.Reply.TheVariants.{Stored, Found, Missing, BadKey, TooLarge, Full, NoMemory, DiskFault, Unsure, Closed, Malformed}
-use Rattle.kv_model.specs.Frames.{reply_content, HasReplyBody, reply_frame, BeginsWithReply, BeginsWithNoReply, IsPartial, IsMalformedReply}
+use Rattle.kv_base.specs.declared.reply.Reply.TheVariants.{Stored, Found, Missing, BadKey, TooLarge}
+use Rattle.kv_base.specs.declared.reply.Reply.TheVariants.{Full, NoMemory, DiskFault, Unsure}
+use Rattle.kv_base.specs.declared.reply.Reply.TheVariants.{Closed, Malformed}
+use Rattle.kv_model.specs.Frames.{reply_content, HasReplyBody, reply_frame, BeginsWithReply}
+use Rattle.kv_model.specs.Frames.{BeginsWithNoReply, IsPartial, IsMalformedReply}
 use Rattle.kv_frames.specs.Cut.{BeginsWithContent, IsOutOfRange}
-use Rattle.kv_frames.specs.Reading.{number_in, bare_of, full_of, stamped_of, plain_in, found_in, reply_in, IsFoundContent}
+use Rattle.kv_frames.specs.Reading.{number_in, bare_of, full_of, stamped_of, plain_in, found_in}
+use Rattle.kv_frames.specs.Reading.{reply_in, IsFoundContent}
 use Rattle.kv_frames.specs.Parse.{IsWholeReply, BeginsWithFound}
-use Rattle.kv_frames.proofs.FramingLemmas.{IsBytes, IsBytes-take, stated_length-framed, content_within}
-use Rattle.kv_frames.proofs.CodeLemmas.{IsCode, Begins, chosen, begins_read, read_found, begins_once, out_of_range_begins_none, partial_begins_none}
+use Rattle.kv_frames.proofs.FramingLemmas.{IsBytes, IsBytes-take, stated_length-framed}
+use Rattle.kv_frames.proofs.FramingLemmas.{content_within}
+use Rattle.kv_frames.proofs.CodeLemmas.{IsCode, Begins, chosen, begins_read, read_found}
+use Rattle.kv_frames.proofs.CodeLemmas.{begins_once, out_of_range_begins_none, partial_begins_none}
 
 -- ---- what is written is read
 
@@ -53,7 +61,11 @@ one_kind kind number body value reply other has is others e =
     elim (chosen (eqb kind number) (Some value) other (Some reply) e) [
       | inl p ↦
           let value_is : value ≡ reply = cc in
-          subst (λ (r : Reply). IsReplyOf kind body r) value_is (has, is ∙ ap (λ (k : ℕ). k ∷ body) (sym (eqb-true kind number p.0)))
+          subst (λ (r : Reply). IsReplyOf kind body r) value_is (
+            has,
+            is
+                ∙ ap (λ (k : ℕ). k ∷ body) (sym (eqb-true kind number p.0)),
+          )
       | inr p ↦ others p.1
     ]
 
@@ -77,7 +89,8 @@ stamped_back kind number body reply fits is =
     one_kind kind 0x81 body (Stored number) reply _ fits (ap (λ (b : List ℕ). 0x81 ∷ b) is)
     (one_kind kind 0x83 body (Missing number) reply _ fits (ap (λ (b : List ℕ). 0x83 ∷ b) is)
     (one_kind kind 0xE6 body (Unsure number) reply _ fits (ap (λ (b : List ℕ). 0xE6 ∷ b) is)
-    (one_kind kind 0xE9 body (Malformed number) reply _ fits (ap (λ (b : List ℕ). 0xE9 ∷ b) is) (λ e. absurd cc))))
+    (one_kind kind 0xE9 body (Malformed number) reply _ fits (ap (λ (b : List ℕ). 0xE9 ∷ b) is)
+    (λ e. absurd cc))))
 
 -- a number of eight bytes
 from_le_bytes_8-fits : (bytes : List ℕ) → IsBytes bytes → from_le_bytes w64 bytes < 2 ^ 64
@@ -102,12 +115,14 @@ plain_back kind (class ∷ []) reply fits e = full_back kind class reply (fits 0
 plain_back kind (first ∷ second ∷ rest) reply fits e =
     let body : List ℕ = first ∷ second ∷ rest in
     let back = number_back body (λ number. stamped_of kind number) reply e in
-    stamped_back kind (from_le_bytes w64 body) body reply (from_le_bytes_8-fits body fits) (le_bytes_8 body _ back.0 fits refl) back.1
+    stamped_back kind (from_le_bytes w64 body) body reply (from_le_bytes_8-fits body fits)
+    (le_bytes_8 body _ back.0 fits refl) back.1
 
 found_back : (body : List ℕ) (reply : Reply) → IsBytes body → found_in body ≡ Some reply
     → IsReplyOf 0x82 body reply
 found_back body reply fits e =
-    elim (chosen (leb 8 (length body)) (Some (Found (from_le_bytes w64 (take 8 body)) (drop 8 body))) None (Some reply) e) [
+    elim (chosen (leb 8 (length body))
+    (Some (Found (from_le_bytes w64 (take 8 body)) (drop 8 body))) None (Some reply) e) [
       | inl p ↦
           let is : Found (from_le_bytes w64 (take 8 body)) (drop 8 body) ≡ reply = cc in
           let front_fits : IsBytes (take 8 body) = IsBytes-take 8 body fits in
@@ -115,7 +130,8 @@ found_back body reply fits e =
           le_bytes_8 (take 8 body) _ (length-take-le 8 body (leb-true _ _ p.0)) front_fits refl in
           subst (λ (r : Reply). IsReplyOf 0x82 body r) is (
             from_le_bytes_8-fits (take 8 body) front_fits,
-            ap (λ (b : List ℕ). 0x82 ∷ (b ++ drop 8 body)) front ∙ ap (λ (b : List ℕ). 0x82 ∷ b) (take-append-drop 8 body),
+            ap (λ (b : List ℕ). 0x82 ∷ (b ++ drop 8 body)) front
+                ∙ ap (λ (b : List ℕ). 0x82 ∷ b) (take-append-drop 8 body),
           )
       | inr p ↦ absurd cc
     ]
@@ -161,7 +177,10 @@ pub reply_is_whole : {bytes content : List ℕ} {reply : Reply} → BeginsWithCo
 reply_is_whole {bytes = bytes} {content = content} {reply = reply} begins is fits =
     let read = begins_read reply_code bytes content reply fits begins is in
     record {
-      begins = record { has = record { body = read.0.body; size = read.0.size }; parts = read.0.parts };
+      begins = record {
+        has = record { body = read.0.body; size = read.0.size };
+        parts = read.0.parts;
+      };
       length_is = rw read.1 (omega arith);
       least = omega (arith, begins.some);
       most = omega (arith, begins.most);
@@ -170,10 +189,13 @@ reply_is_whole {bytes = bytes} {content = content} {reply = reply} begins is fit
 
 -- no other reply begins the bytes
 pub reply_is_found : {bytes content : List ℕ} {found reply : Reply} {rest : List ℕ}
-    → BeginsWithContent bytes content → Some found ≡ reply_in content → BeginsWithReply bytes reply rest
+    → BeginsWithContent bytes content → Some found ≡ reply_in content
+    → BeginsWithReply bytes reply rest
     → (found ≡ reply) × (4 + length content ≡ length (reply_frame reply))
-reply_is_found {bytes = bytes} {content = content} {found = found} {reply = reply} {rest = rest} begins is p =
-    let read = read_found reply_code bytes content reply rest begins (reply_begins bytes reply rest p) in
+reply_is_found {bytes = bytes} {content = content} {found = found} {reply = reply} {rest = rest}
+    begins is p =
+    let read = read_found reply_code bytes content reply rest begins (reply_begins bytes reply rest
+    p) in
     let both : Some found ≡ Some reply = is ∙ read.0 in
     (cc, omega (arith, read.1))
 
@@ -183,12 +205,14 @@ pub reply_is_malformed : {bytes content : List ℕ} → BeginsWithContent bytes 
 reply_is_malformed {bytes = bytes} {content = content} begins is =
     let within = content_within bytes content begins in
     let fits : length content < 2 ^ 32 = omega (arith, begins.most) in
-    let stated = stated_length-framed content (drop (4 + length content) bytes) bytes fits begins.parts in
+    let stated = stated_length-framed content (drop (4 + length content) bytes) bytes fits
+    begins.parts in
     record {
       length_there = omega arith;
       all_there = λ some most. omega (arith, within, stated);
       none = λ reply rest p.
-          let read = read_found reply_code bytes content reply rest begins (reply_begins bytes reply rest p) in
+          let read = read_found reply_code bytes content reply rest begins (reply_begins bytes reply
+          rest p) in
           let both : None ≡ Some reply = is ∙ read.0 in
           absurd cc;
     }
@@ -200,7 +224,8 @@ reply_out_is_malformed bytes out =
       length_there = out.length_there;
       all_there = λ some most. absurd (omega (arith, out.out some));
       none = λ reply rest p.
-          out_of_range_begins_none reply_code bytes reply rest out (reply_begins bytes reply rest p);
+          out_of_range_begins_none reply_code bytes reply rest out (reply_begins bytes reply rest
+          p);
     }
 
 -- no reply begins a part of a frame

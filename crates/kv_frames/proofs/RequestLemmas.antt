@@ -1,15 +1,19 @@
 -- Lemmas on frames of requests.
-use Rattle.std.proofs.Common.{◌≡◌, ℕ, ◌+◌, ◌^◌, ◌<◌, ◌≤◌, true, cond, List, [], ◌∷◌, ◌++◌, length, take, drop, Some, None, inl, inr, refl, subst, ◌∙◌, arith, eqb, leb}
+use Rattle.std.proofs.Common.{◌≡◌, ℕ, ◌+◌, ◌^◌, ◌<◌, ◌≤◌, true, cond, List, [], ◌∷◌, ◌++◌, length}
+use Rattle.std.proofs.Common.{take, drop, Some, None, inl, inr, refl, subst, ◌∙◌, arith, eqb, leb}
 use Rattle.std.proofs.lemmas.Bool.{le-leb, leb-true, eqb-true}
-use Rattle.std.proofs.lemmas.List.{take_at, drop_at, take-append-drop, length-append, length-take-le}
+use Rattle.std.proofs.lemmas.List.{take_at, drop_at, take-append-drop, length-append}
+use Rattle.std.proofs.lemmas.List.{length-take-le}
 use Rattle.kv_base.specs.declared.request.Request.{Request}
 use Rattle.kv_base.specs.declared.request.Request.TheVariants.{Put, Get}
-use Rattle.kv_model.specs.Frames.{request_content, HasRequestBody, request_frame, BeginsWithRequest, BeginsWithNoRequest, IsPartial, IsMalformed}
+use Rattle.kv_model.specs.Frames.{request_content, HasRequestBody, request_frame, BeginsWithRequest}
+use Rattle.kv_model.specs.Frames.{BeginsWithNoRequest, IsPartial, IsMalformed}
 use Rattle.kv_frames.specs.Cut.{BeginsWithContent, IsOutOfRange}
 use Rattle.kv_frames.specs.Reading.{put_body_in, request_in}
 use Rattle.kv_frames.specs.Parse.{IsWhole}
 use Rattle.kv_frames.proofs.FramingLemmas.{IsBytes, stated_length-framed, content_within}
-use Rattle.kv_frames.proofs.CodeLemmas.{IsCode, Begins, chosen, begins_read, read_found, begins_once, out_of_range_begins_none, partial_begins_none}
+use Rattle.kv_frames.proofs.CodeLemmas.{IsCode, Begins, chosen, begins_read, read_found}
+use Rattle.kv_frames.proofs.CodeLemmas.{begins_once, out_of_range_begins_none, partial_begins_none}
 
 -- what a request's content is read as
 request_again : (request : Request) → HasRequestBody request
@@ -26,7 +30,8 @@ put_back : (body : List ℕ) (request : Request) → IsBytes (1 ∷ body)
     → HasRequestBody request × (request_content request ≡ 1 ∷ body)
 put_back [] request fits e = absurd cc
 put_back (key_length ∷ rest) request fits e =
-    elim (chosen (leb key_length (length rest)) (Some (Put (take key_length rest) (drop key_length rest))) None (Some request) e) [
+    elim (chosen (leb key_length (length rest))
+    (Some (Put (take key_length rest) (drop key_length rest))) None (Some request) e) [
       | inl p ↦
           let is : Put (take key_length rest) (drop key_length rest) ≡ request = cc in
           let size : length (take key_length rest) ≡ key_length =
@@ -42,7 +47,8 @@ request_back : (bytes : List ℕ) (request : Request) → IsBytes bytes
     → request_in bytes ≡ Some request → HasRequestBody request × (request_content request ≡ bytes)
 request_back [] request fits e = absurd cc
 request_back (kind ∷ body) request fits e =
-    elim (chosen (eqb kind 1) (put_body_in body) (cond (eqb kind 2) (Some (Get body)) None) (Some request) e) [
+    elim (chosen (eqb kind 1) (put_body_in body) (cond (eqb kind 2) (Some (Get body)) None)
+    (Some request) e) [
       | inl p ↦
           let is : kind ≡ 1 = eqb-true kind 1 p.0 in
           let fits' : IsBytes (1 ∷ body) = subst (λ (k : ℕ). IsBytes (k ∷ body)) is fits in
@@ -52,7 +58,8 @@ request_back (kind ∷ body) request fits e =
             | inl q ↦
                 let is : Get body ≡ request = cc in
                 let kind_is : kind ≡ 2 = eqb-true kind 2 q.0 in
-                subst (λ (r : Request). HasRequestBody r × (request_content r ≡ kind ∷ body)) is (rw kind_is (tt, refl))
+                subst (λ (r : Request). HasRequestBody r × (request_content r ≡ kind ∷ body)) is
+                (rw kind_is (tt, refl))
             | inr q ↦ absurd cc
           ]
     ]
@@ -75,12 +82,16 @@ request_begins bytes request rest p =
     record { body = p.has.body; size = p.has.size; parts = p.parts }
 
 -- a content that is read is a whole request
-pub request_is_whole : {bytes content : List ℕ} {request : Request} → BeginsWithContent bytes content
+pub request_is_whole : {bytes content : List ℕ} {request : Request}
+    → BeginsWithContent bytes content
     → Some request ≡ request_in content → IsBytes bytes → IsWhole bytes request (4 + length content)
 request_is_whole {bytes = bytes} {content = content} {request = request} begins is fits =
     let read = begins_read request_code bytes content request fits begins is in
     record {
-      begins = record { has = record { body = read.0.body; size = read.0.size }; parts = read.0.parts };
+      begins = record {
+        has = record { body = read.0.body; size = read.0.size };
+        parts = read.0.parts;
+      };
       length_is = rw read.1 (omega arith);
       least = omega (arith, begins.some);
       most = omega (arith, begins.most);
@@ -89,10 +100,13 @@ request_is_whole {bytes = bytes} {content = content} {request = request} begins 
 
 -- no other request begins the bytes
 pub request_is_found : {bytes content : List ℕ} {found request : Request} {rest : List ℕ}
-    → BeginsWithContent bytes content → Some found ≡ request_in content → BeginsWithRequest bytes request rest
+    → BeginsWithContent bytes content → Some found ≡ request_in content
+    → BeginsWithRequest bytes request rest
     → (found ≡ request) × (4 + length content ≡ length (request_frame request))
-request_is_found {bytes = bytes} {content = content} {found = found} {request = request} {rest = rest} begins is p =
-    let read = read_found request_code bytes content request rest begins (request_begins bytes request rest p) in
+request_is_found {bytes = bytes} {content = content} {found = found} {request = request}
+    {rest = rest} begins is p =
+    let read = read_found request_code bytes content request rest begins
+    (request_begins bytes request rest p) in
     let both : Some found ≡ Some request = is ∙ read.0 in
     (cc, omega (arith, read.1))
 
@@ -102,12 +116,14 @@ pub request_is_malformed : {bytes content : List ℕ} → BeginsWithContent byte
 request_is_malformed {bytes = bytes} {content = content} begins is =
     let within = content_within bytes content begins in
     let fits : length content < 2 ^ 32 = omega (arith, begins.most) in
-    let stated = stated_length-framed content (drop (4 + length content) bytes) bytes fits begins.parts in
+    let stated = stated_length-framed content (drop (4 + length content) bytes) bytes fits
+    begins.parts in
     record {
       length_there = omega arith;
       all_there = λ some most. omega (arith, within, stated);
       none = λ request rest p.
-          let read = read_found request_code bytes content request rest begins (request_begins bytes request rest p) in
+          let read = read_found request_code bytes content request rest begins
+          (request_begins bytes request rest p) in
           let both : None ≡ Some request = is ∙ read.0 in
           absurd cc;
     }
@@ -119,7 +135,8 @@ request_out_is_malformed bytes out =
       length_there = out.length_there;
       all_there = λ some most. absurd (omega (arith, out.out some));
       none = λ request rest p.
-          out_of_range_begins_none request_code bytes request rest out (request_begins bytes request rest p);
+          out_of_range_begins_none request_code bytes request rest out (request_begins bytes request
+          rest p);
     }
 
 -- no request begins a part of a frame

@@ -1,12 +1,16 @@
 -- Lemmas on frames one behind the other.
-use Rattle.std.proofs.Common.{◌≡◌, ℕ, ◌+◌, ◌<◌, ◌≤◌, List, [], ◌∷◌, ◌++◌, length, take, drop, refl, sym, ap, ◌∙◌, append_assoc, arith}
+use Rattle.std.proofs.Common.{◌≡◌, ℕ, ◌+◌, ◌<◌, ◌≤◌, List, [], ◌∷◌, ◌++◌, length, take, drop, refl}
+use Rattle.std.proofs.Common.{sym, ap, ◌∙◌, append_assoc, arith}
 use Rattle.std.specs.List.{AllByRecursion, flat_map}
 use Rattle.std.specs.Int.{w32, from_le_bytes}
 use Rattle.std.proofs.lemmas.Grind.{flat_map-append}
-use Rattle.std.proofs.lemmas.List.{append-nil, length-append, take-append-le, take-append-drop, take_at}
+use Rattle.std.proofs.lemmas.List.{append-nil, length-append, take-append-le, take-append-drop}
+use Rattle.std.proofs.lemmas.List.{take_at}
 use Rattle.kv_base.specs.declared.request.Request.{Request}
 use Rattle.kv_base.specs.declared.reply.Reply.{Reply}
-use Rattle.kv_model.specs.Frames.{framed, stated_length, request_content, HasRequestFrame, request_frame, HasReplyFrame, reply_frame, BeginsWithRequest, BeginsWithNoRequest, BeginsWithReply, IsMalformed, SplitsInto}
+use Rattle.kv_model.specs.Frames.{framed, stated_length, request_content, HasRequestFrame}
+use Rattle.kv_model.specs.Frames.{request_frame, HasReplyFrame, reply_frame, BeginsWithRequest}
+use Rattle.kv_model.specs.Frames.{BeginsWithNoRequest, BeginsWithReply, IsMalformed, SplitsInto}
 use Rattle.kv_model.specs.Transcript.{IsPart}
 use Rattle.kv_frames.specs.Pieces.{ReadInPieces}
 use Rattle.kv_frames.proofs.FramingLemmas.{stated_length-framed}
@@ -36,7 +40,8 @@ first_once : (request other : Request) (requests others : List Request) (rest be
 first_once request other requests others rest behind has also e =
     let bytes = stream_of (request ∷ requests) rest in
     request_once bytes request other (stream_of requests rest) (stream_of others behind)
-    (begins_first request requests rest bytes has refl) (begins_first other others behind bytes also e)
+    (begins_first request requests rest bytes has refl) (begins_first other others behind bytes also
+    e)
 
 -- equal first requests and equal others make equal lists
 cons_same : {X : Type 0} (x y : X) (xs ys : List X) → x ≡ y → xs ≡ ys → x ∷ xs ≡ y ∷ ys
@@ -51,7 +56,8 @@ split_once [] [] rest behind has also e none nor = (refl, e)
 split_once [] (other ∷ others) rest behind has also e none nor =
     absurd (none other (stream_of others behind) (begins_first other others behind rest also.0 e))
 split_once (request ∷ requests) [] rest behind has also e none nor =
-    absurd (nor request (stream_of requests rest) (begins_first request requests rest behind has.0 (sym e)))
+    absurd (nor request (stream_of requests rest) (begins_first request requests rest behind has.0
+    (sym e)))
 split_once (request ∷ requests) (other ∷ others) rest behind has also e none nor =
     let first = first_once request other requests others rest behind has.0 also.0 e in
     let same = split_once requests others rest behind has.1 also.1 first.1 none nor in
@@ -97,7 +103,11 @@ malformed_append bytes more bad =
           let is : stated_length (bytes ++ more) ≡ length content =
           stated_length-framed content rest (bytes ++ more) (omega (arith, p.has.size)) p.parts in
           let within : 4 + length content ≤ length bytes =
-          omega (arith, bad.all_there (omega (arith, request_some request)) (omega (arith, p.has.size))) in
+          omega (
+            arith,
+            bad.all_there (omega (arith, request_some request))
+                (omega (arith, p.has.size)),
+          ) in
           let n = 4 + length content in
           let front : take n bytes ≡ framed content =
           sym (take-append-le n bytes more within)
@@ -172,7 +182,8 @@ part_holds_none part (next ∷ left) reply rest has also is e =
     record { has = has.0; parts = sym (append-nil whole) } in
     let second : BeginsWithReply whole reply (rest ++ behind) = record {
       has = also;
-      parts = is.2 ∙ ap (λ (b : List ℕ). b ++ behind) e ∙ append_assoc (reply_frame reply) rest behind;
+      parts = is.2 ∙ ap (λ (b : List ℕ). b ++ behind) e
+          ∙ append_assoc (reply_frame reply) rest behind;
     } in
     let once = reply_once whole next reply [] (rest ++ behind) first second in
     absurd (omega (arith, is.1, ap (λ (b : List ℕ). length b) once.1, length-append rest behind))
@@ -189,7 +200,8 @@ gives_first reply out part bytes has e = record {
 -- the replies that went out whole are those of one list
 pub outcome_once : (out others : List Reply) (part piece : List ℕ) (left : List Reply)
     → AllByRecursion HasReplyFrame (out ++ left) → AllByRecursion HasReplyFrame (others ++ left)
-    → given_of out part ≡ given_of others piece → IsPart part left → IsPart piece left → out ≡ others
+    → given_of out part ≡ given_of others piece → IsPart part left → IsPart piece left
+    → out ≡ others
 outcome_once [] [] part piece left has also e is was = refl
 outcome_once [] (other ∷ others) part piece left has also e is was =
     let first = gives_first other others piece part also.0 e in

@@ -1,12 +1,14 @@
 -- Lemmas on what a session took and gave.
-use Rattle.std.proofs.Common.{◌≡◌, ℕ, ◌<◌, Bool, List, [], ◌∷◌, ◌++◌, length, ◌⊎◌, inl, inr, sym, ap, subst, ◌∙◌, arith}
+use Rattle.std.proofs.Common.{◌≡◌, ℕ, ◌<◌, Bool, List, [], ◌∷◌, ◌++◌, length, ◌⊎◌, inl, inr, sym}
+use Rattle.std.proofs.Common.{ap, subst, ◌∙◌, arith}
 use Rattle.std.specs.List.{AllByRecursion}
 use Rattle.std.proofs.lemmas.List.{append-nil, length-append, same_from_push}
 use Rattle.kv_base.specs.declared.request.Request.{Request}
 use Rattle.kv_base.specs.declared.reply.Reply.{Reply}
 use Rattle.kv_base.specs.declared.reply.Reply.TheVariants as reply
 use Rattle.kv_base.specs.declared.cause.Cause.{Cause}
-use Rattle.kv_base.specs.declared.cause.Cause.TheVariants.{End, Malformed, Limit, SourceFault, SinkFault}
+use Rattle.kv_base.specs.declared.cause.Cause.TheVariants.{End, Malformed, Limit, SourceFault}
+use Rattle.kv_base.specs.declared.cause.Cause.TheVariants.{SinkFault}
 use Rattle.kv_model.specs.Frames.{HasReplyFrame, BeginsWithNoRequest, BeginsWithRequests}
 use Rattle.kv_model.specs.Transcript.{GoesOut, HasTranscript, Closes}
 use Rattle.kv_frames.proofs.StreamLemmas.{outcome_once, requests_once, more_behind}
@@ -44,7 +46,8 @@ said_same : (replies answers closing last said also : List Reply)
     → closing ≡ said → last ≡ also → replies ++ closing ≡ answers ++ last
     → replies ++ said ≡ answers ++ also
 said_same replies answers closing last said also is was e =
-    ap (λ (rs : List Reply). replies ++ rs) (sym is) ∙ e ∙ ap (λ (rs : List Reply). answers ++ rs) was
+    ap (λ (rs : List Reply). replies ++ rs) (sym is) ∙ e
+    ∙ ap (λ (rs : List Reply). answers ++ rs) was
 
 -- one transcript's last word isn't behind a whole request of the other
 one_more : (handled others : List Request) (replies answers : List Reply) (last : Reply)
@@ -59,17 +62,20 @@ replies_same : (taken : List ℕ) (handled others : List Request)
     (replies answers closing last : List Reply) (rest behind : List ℕ)
     → BeginsWithRequests taken handled rest → BeginsWithRequests taken others behind
     → length replies ≡ length handled → length answers ≡ length others
-    → replies ++ closing ≡ answers ++ last → Said rest closing → Said behind last → replies ≡ answers
+    → replies ++ closing ≡ answers ++ last → Said rest closing → Said behind last
+    → replies ≡ answers
 replies_same taken handled others replies answers closing last rest behind p q n m e said also =
     let bytes = sym p.parts ∙ q.parts in
     elim said [
       | inl nothing ↦
           elim also [
             | inl none ↦
-                sym (append-nil replies) ∙ said_same replies answers closing last [] [] nothing none e
+                sym (append-nil replies) ∙ said_same replies answers closing last [] [] nothing none
+                e
                 ∙ append-nil answers
             | inr one ↦
-                let whole = said_same replies answers closing last [] (one.0 ∷ []) nothing one.1 e in
+                let whole = said_same replies answers closing last [] (one.0 ∷ []) nothing one.1
+                e in
                 let more = one_more handled others replies answers one.0 n m whole in
                 absurd (more_behind handled others rest behind more p.each q.each bytes one.2)
           ]
@@ -81,7 +87,8 @@ replies_same taken handled others replies answers closing last rest behind p q n
                 absurd (more_behind others handled behind rest more q.each p.each (sym bytes) one.2)
             | inr other ↦
                 let whole =
-                said_same replies answers closing last (one.0 ∷ []) (other.0 ∷ []) one.1 other.1 e in
+                said_same replies answers closing last (one.0 ∷ []) (other.0 ∷ []) one.1 other.1
+                e in
                 (same_from_push replies answers one.0 other.0 whole).0
           ]
     ]
@@ -94,7 +101,8 @@ pub transcripts_same : (taken : List ℕ) (ended : Bool) (given : List ℕ) (lef
     → (handled ≡ others) × (replies ≡ answers)
 transcripts_same taken ended given left cause handled others replies answers p q =
     let both =
-    outcomes_same (replies ++ p.closing) (answers ++ q.closing) given left p.framed q.framed p.out q.out in
+    outcomes_same (replies ++ p.closing) (answers ++ q.closing) given left p.framed q.framed p.out
+    q.out in
     let said = said_at_end cause taken p.rest ended p.closing p.closes in
     let also = said_at_end cause taken q.rest ended q.closing q.closes in
     let same = replies_same taken handled others replies answers p.closing q.closing p.rest q.rest

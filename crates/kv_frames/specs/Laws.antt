@@ -4,7 +4,8 @@ use Rattle.std.specs.List.{AllByRecursion, flat_map}
 use Rattle.kv_base.specs.declared.request.Request.{Request}
 use Rattle.kv_base.specs.declared.reply.Reply.{Reply}
 use Rattle.kv_base.specs.declared.cause.Cause.{Cause}
-use Rattle.kv_model.specs.Frames.{HasRequestFrame, request_frame, BeginsWithRequest, BeginsWithNoRequest}
+use Rattle.kv_model.specs.Frames.{HasRequestFrame, request_frame, BeginsWithRequest}
+use Rattle.kv_model.specs.Frames.{BeginsWithNoRequest}
 use Rattle.kv_model.specs.Frames.{HasReplyFrame, reply_frame, BeginsWithReply, BeginsWithNoReply}
 use Rattle.kv_model.specs.Frames.{BeginsWithRequests, SplitsInto, IsPartial, IsMalformed}
 use Rattle.kv_model.specs.Transcript.{GoesOut, HasTranscript}

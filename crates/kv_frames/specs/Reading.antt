@@ -1,11 +1,14 @@
 -- Contents read from left to right, as the private steps of parsing read them.
-use Rattle.std.specs.Prelude.{◌≡◌, ℕ, ◌==◌, List, [], ◌∷◌, length, take, drop, Option, Some, None, nat_le, if◌then◌else◌}
+use Rattle.std.specs.Prelude.{◌≡◌, ℕ, ◌==◌, List, [], ◌∷◌, length, take, drop, Option, Some, None}
+use Rattle.std.specs.Prelude.{nat_le, if◌then◌else◌}
 use Rattle.std.specs.Int.{w64, from_le_bytes}
 use Rattle.std.specs.Option.{option_and_then}
 use Rattle.kv_base.specs.declared.request.Request.{Request}
 use Rattle.kv_base.specs.declared.request.Request.TheVariants.{Put, Get}
 use Rattle.kv_base.specs.declared.reply.Reply.{Reply}
-use Rattle.kv_base.specs.declared.reply.Reply.TheVariants.{Stored, Found, Missing, BadKey, TooLarge, Full, NoMemory, DiskFault, Unsure, Closed, Malformed}
+use Rattle.kv_base.specs.declared.reply.Reply.TheVariants.{Stored, Found, Missing, BadKey, TooLarge}
+use Rattle.kv_base.specs.declared.reply.Reply.TheVariants.{Full, NoMemory, DiskFault, Unsure}
+use Rattle.kv_base.specs.declared.reply.Reply.TheVariants.{Closed, Malformed}
 
 -- the key of so many bytes, and the value behind it, where the key is all there
 abbrev pub put_in : ℕ → List ℕ → Option Request
@@ -60,7 +63,8 @@ plain_in kind (first ∷ second ∷ rest) =
 -- a stamp, and the value behind it
 abbrev pub found_in : List ℕ → Option Reply
 found_in body =
-    if nat_le 8 (length body) then Some (Found (from_le_bytes w64 (take 8 body)) (drop 8 body)) else None
+    if nat_le 8 (length body) then Some (Found (from_le_bytes w64 (take 8 body)) (drop 8 body))
+    else None
 
 -- the reply with this content, where there is one
 abbrev pub reply_in : List ℕ → Option Reply

@@ -1,5 +1,6 @@
 ghost use Rattle.kv_frames.specs.Laws.{OneRequest, OneReply, OneSplit, OneReading, OneOutcome};
-ghost use Rattle.kv_frames.specs.Laws.{OneTranscript, WrittenAgain, PartialBeginsNone, MalformedStays};
+ghost use Rattle.kv_frames.specs.Laws.{OneTranscript, WrittenAgain, PartialBeginsNone};
+ghost use Rattle.kv_frames.specs.Laws.{MalformedStays};
 ghost use Rattle.kv_frames.specs.Laws.{NextRequest, NextPiece};
 
 /// A request has one frame at most, and no request's frame begins another: bytes begin with one

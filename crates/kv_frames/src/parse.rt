@@ -10,9 +10,9 @@ use crate::cut::{Front, cut_front};
 use crate::kind;
 use crate::view::{Parsed, RequestView};
 
-/// Parses the request that the bytes begin with. Takes no memory and copies nothing: the key and the
-/// value are slices of the bytes. A key of a wrong length or an item that is too large is a whole
-/// request here; the session refuses it.
+/// Parses the request that the bytes begin with. Takes no memory and copies nothing: the key and
+/// the value are slices of the bytes. A key of a wrong length or an item that is too large is a
+/// whole request here; the session refuses it.
 pub fn parse_request<'a>(bytes: &'a [u8]) -> Parsed<'a>
     ensures cases { IsParsed result bytes.now }
     ensures whole { (request : Request) (rest : List ℕ) → BeginsWithRequest bytes.now request rest

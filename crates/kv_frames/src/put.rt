@@ -5,9 +5,9 @@ ghost use Rattle.kv_model.specs.Frames.{HasRequestFrame, request_frame, HasReply
 use crate::kind;
 use kv_base::{NoMemory, Reply, Request};
 
-/// Writes the reply's frame: `out` then holds it and nothing else, whatever it held. The one error is
-/// want of memory, and then `out` holds anything. Takes no memory where the capacity of `out` holds
-/// the frame, which is 66,004 bytes at most.
+/// Writes the reply's frame: `out` then holds it and nothing else, whatever it held. The one error
+/// is want of memory, and then `out` holds anything. Takes no memory where the capacity of `out`
+/// holds the frame, which is 66,004 bytes at most.
 pub fn put_reply(reply: &Reply, out: &mut Vec<u8>) -> Result<(), NoMemory>
     requires { HasReplyFrame reply.now }
     ensures ok { OnOk result (out.new.items ≡ reply_frame reply.now) }
@@ -60,7 +60,8 @@ pub fn put_request(request: &Request, out: &mut Vec<u8>) -> Result<(), NoMemory>
 fn put_frame(head: &[u8], first: &[u8], second: &[u8], out: &mut Vec<u8>) -> Result<(), NoMemory>
     requires { length head.now + length first.now + length second.now ≤ longest_content }
     ensures ok { OnOk result (out.new.items ≡ framed (head.now ++ (first.now ++ second.now))) }
-    ensures room { 4 + (length head.now + length first.now + length second.now) ≤ vec_capacity out.old
+    ensures room { 4 + (length head.now + length first.now + length second.now)
+        ≤ vec_capacity out.old
         → IsOk result }
     ensures capacity { vec_capacity out.old ≤ vec_capacity out.new }
 {

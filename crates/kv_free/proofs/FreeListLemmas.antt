@@ -1,5 +1,6 @@
 -- A link that is read back leaves the list.
-use Rattle.std.proofs.Common.{◌≡◌, ℕ, zero, suc, ◌-◌, true, false, cond, nat_lt, List, [], ◌∷◌, length, set, Some, None, Option, slice_get, refl, sym, ap, subst}
+use Rattle.std.proofs.Common.{◌≡◌, ℕ, zero, suc, ◌-◌, true, false, cond, nat_lt, List, [], ◌∷◌}
+use Rattle.std.proofs.Common.{length, set, Some, None, Option, slice_get, refl, sym, ap, subst}
 use Rattle.kv_free.specs.FreeList.{Tail, StandsFor, link_of, relinked}
 
 -- a number that is written where it stands changes nothing

@@ -1,5 +1,6 @@
 -- A list of free slots of which only the end stands in memory.
-use Rattle.std.specs.Prelude.{◌≡◌, ℕ, ◌-◌, nat_lt, List, length, drop, Option, None, Some, slice_get, slice_set, if◌then◌else◌}
+use Rattle.std.specs.Prelude.{◌≡◌, ℕ, ◌-◌, nat_lt, List, length, drop, Option, None, Some}
+use Rattle.std.specs.Prelude.{slice_get, slice_set, if◌then◌else◌}
 
 -- the numbers that stand in memory, and how many the list has
 pub record Tail : Type 0 where

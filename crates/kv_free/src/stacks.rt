@@ -1,4 +1,5 @@
-ghost use Rattle.std.specs.Prelude.{◌≡◌, ℕ, ◌+◌, ◌^◌, ◌<◌, ◌≤◌, ◌↔◌, List, [], ◌∷◌, ◌++◌, IsSome, IfSome};
+ghost use Rattle.std.specs.Prelude.{◌≡◌, ℕ, ◌+◌, ◌^◌, ◌<◌, ◌≤◌, ◌↔◌, List, [], ◌∷◌, ◌++◌, IsSome};
+ghost use Rattle.std.specs.Prelude.{IfSome};
 ghost use Rattle.kv_free.specs.FreeList.{StandsFor, link_of, relinked, last_of};
 
 use arrayvec::ArrayVec;

@@ -1,19 +1,26 @@
 -- The finite map of a list of pairs whose keys rise, under an edit of the list.
-use Rattle.std.proofs.Common.{◌≡◌, ℕ, ◌<◌, ◌≤◌, T, Bool, true, false, cond, not, List, length, get_or, set, Option, Some, None, Result, IfOk, IfErr, IsTrue, IsSome, Ordering, Less, Equal, Greater, refl, sym, ap, ◌∙◌, subst, arith}
+use Rattle.std.proofs.Common.{◌≡◌, ℕ, ◌<◌, ◌≤◌, T, Bool, true, false, cond, not, List, length}
+use Rattle.std.proofs.Common.{get_or, set, Option, Some, None, Result, IfOk, IfErr, IsTrue, IsSome}
+use Rattle.std.proofs.Common.{Ordering, Less, Equal, Greater, refl, sym, ap, ◌∙◌, subst, arith}
 use Rattle.std.specs.List.{insert, remove}
 use Rattle.std.specs.Ordering.{nat_cmp, is_le, is_eq, ordering_reverse, eq_by_cmp}
 use Rattle.std.specs.List.Sorted.{IsBinarySearchResult, IsSearchInRange}
 use Rattle.std.specs.Cmp.{IsTotalOrder, alike_right, tied_itself, eq_by_cmp_equiv}
 use Rattle.std.specs.Cmp.Lexicographic.{slice_cmp}
 use Rattle.std.specs.FinMap as finite
-use Rattle.std.specs.FinMap.{find, is_sorted, from_sorted, entries-from_sorted, get-from_sorted, entries-insert, same_entries_map, len-entries, same_map, get-remove, slice_cmp-IsAntisymmetric, nat_cmp-IsAntisymmetric}
-use Rattle.std.specs.FinMap.Entries.{put, where_key, is_sorted-put, is_sorted-where_key, find-where_key}
+use Rattle.std.specs.FinMap.{find, is_sorted, from_sorted, entries-from_sorted, get-from_sorted}
+use Rattle.std.specs.FinMap.{entries-insert, same_entries_map, len-entries, same_map, get-remove}
+use Rattle.std.specs.FinMap.{slice_cmp-IsAntisymmetric, nat_cmp-IsAntisymmetric}
+use Rattle.std.specs.FinMap.Entries.{put, where_key, is_sorted-put, is_sorted-where_key}
+use Rattle.std.specs.FinMap.Entries.{find-where_key}
 use Rattle.std.proofs.lemmas.Bool.{false≢true}
 use Rattle.std.proofs.lemmas.Cmp.{nat_list_cmp_total}
 use Rattle.kv_index.specs.declared.entry.Entry.{Entry}
 use Rattle.kv_index.specs.Entries.{Entries, HasNoneFrom, IsNext, IsUpTo}
 use Rattle.kv_index.specs.Places.{HasRisingKeys, IsAt, IsGap}
-use Rattle.kv_index.proofs.PlacesLemmas.{find_at, find_gap, put_at, put_gap, without_at, without_gap, find_between, at_own, at_ties, gap_below, searched}
+use Rattle.kv_index.proofs.PlacesLemmas.{find_at, find_gap, put_at, put_gap, without_at}
+use Rattle.kv_index.proofs.PlacesLemmas.{without_gap, find_between, at_own, at_ties, gap_below}
+use Rattle.kv_index.proofs.PlacesLemmas.{searched}
 
 abbrev order : List ℕ → List ℕ → Ordering
 order = slice_cmp nat_cmp

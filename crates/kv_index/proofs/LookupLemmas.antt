@@ -1,9 +1,12 @@
 -- What a caller finds in the map of an index after a change.
-use Rattle.std.proofs.Common.{◌≡◌, ℕ, ◌+◌, ◌-◌, ◌≢◌, ◌⊎◌, true, false, cond, List, Option, Some, None, is_some, Ordering, Less, Equal, Greater, inl, inr, refl, sym, ap, ◌∙◌}
+use Rattle.std.proofs.Common.{◌≡◌, ℕ, ◌+◌, ◌-◌, ◌≢◌, ◌⊎◌, true, false, cond, List, Option, Some}
+use Rattle.std.proofs.Common.{None, is_some, Ordering, Less, Equal, Greater, inl, inr, refl, sym}
+use Rattle.std.proofs.Common.{ap, ◌∙◌}
 use Rattle.std.specs.Ordering.{nat_cmp, is_eq, eq_by_cmp}
 use Rattle.std.specs.Cmp.{tied_itself}
 use Rattle.std.specs.Cmp.Lexicographic.{slice_cmp}
-use Rattle.std.specs.FinMap.{get, insert, remove, len, get-insert, get-remove, len-insert, len-remove}
+use Rattle.std.specs.FinMap.{get, insert, remove, len, get-insert, get-remove, len-insert}
+use Rattle.std.specs.FinMap.{len-remove}
 use Rattle.std.proofs.lemmas.Bool.{false≢true}
 use Rattle.std.proofs.lemmas.Cmp.{nat_list_cmp_total}
 use Rattle.kv_index.specs.declared.entry.Entry.{Entry}
@@ -17,13 +20,12 @@ same_or_other a b =
       | Less ↦ λ is. inr (apart is false≢true)
       | Equal ↦ λ is. inl (one_key a b is)
       | Greater ↦ λ is. inr (apart is false≢true)
-    ] refl
-  where
-    apart : {r : Ordering} → slice_cmp nat_cmp a b ≡ r → (is_eq r ≡ true → ⊥) → a ≢ b
-    apart is differs same =
-        differs
-        (sym (ap is_eq is) ∙ ap (λ k. is_eq (slice_cmp nat_cmp a k)) (sym same)
-        ∙ ap is_eq (tied_itself nat_list_cmp_total a))
+    ] refl where
+      apart : {r : Ordering} → slice_cmp nat_cmp a b ≡ r → (is_eq r ≡ true → ⊥) → a ≢ b
+      apart is differs same =
+          differs
+          (sym (ap is_eq is) ∙ ap (λ k. is_eq (slice_cmp nat_cmp a k)) (sym same)
+          ∙ ap is_eq (tied_itself nat_list_cmp_total a))
 
 same : (key : List ℕ) → eq_by_cmp (slice_cmp nat_cmp) key key ≡ true
 same key = ap is_eq (tied_itself nat_list_cmp_total key)

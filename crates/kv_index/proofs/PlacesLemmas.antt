@@ -1,5 +1,8 @@
 -- What the finite map of a list whose keys rise has at a place, and what an edit there does to it.
-use Rattle.std.proofs.Common.{◌≡◌, ℕ, zero, suc, ◌+◌, ◌<◌, ◌≤◌, T, Bool, true, false, cond, not, ◌&&◌, List, [], ◌∷◌, length, get_or, set, Some, None, Result, Ok, Err, IfOk, IfErr, Ordering, Less, Equal, Greater, refl, sym, ap, ◌∙◌, subst, arith}
+use Rattle.std.proofs.Common.{◌≡◌, ℕ, zero, suc, ◌+◌, ◌<◌, ◌≤◌, T, Bool, true, false, cond, not}
+use Rattle.std.proofs.Common.{◌&&◌, List, [], ◌∷◌, length, get_or, set, Some, None, Result, Ok, Err}
+use Rattle.std.proofs.Common.{IfOk, IfErr, Ordering, Less, Equal, Greater, refl, sym, ap, ◌∙◌}
+use Rattle.std.proofs.Common.{subst, arith}
 use Rattle.std.specs.List.{insert, remove}
 use Rattle.std.specs.Ordering.{is_lt, is_eq, is_le, eq_by_cmp, ordering_reverse, ordering_index}
 use Rattle.std.specs.Cmp.{IsTotalOrder, alike_right, tied_itself}
@@ -153,7 +156,8 @@ module _ {K X : Type 0} {R : K → K → Ordering} (o : IsTotalOrder R) where
       ∙ ap (λ rest. e ∷ rest)
       (without_gap q es i (second (below_all R e.0 es) (is_sorted R es) s) h.1)
 
-  -- a key that is at or after one that was searched for, and before what stands at its place, has no value
+  -- a key that is at or after one that was searched for, and before what stands at its place, has
+  -- no value
   pub find_between : (q k : K) (es : List (K × X)) (i : ℕ) (d : K × X) → T (is_sorted R es)
       → IsGap R q es i → T (is_le (R q k)) → (i < length es → R k (get_or es i d).0 ≡ Less)
       → find R k es ≡ None

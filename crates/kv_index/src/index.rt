@@ -1,4 +1,5 @@
-ghost use Rattle.std.specs.Prelude.{◌≡◌, ℕ, ◌-◌, ◌^◌, ◌<◌, ◌≤◌, OnOk, IfNone, MatchOption, if◌then◌else◌};
+ghost use Rattle.std.specs.Prelude.{◌≡◌, ℕ, ◌-◌, ◌^◌, ◌<◌, ◌≤◌, OnOk, IfNone, MatchOption};
+ghost use Rattle.std.specs.Prelude.{if◌then◌else◌};
 ghost use Rattle.std.specs.FinMap as finite;
 ghost use Rattle.kv_index.specs.Entries.{Entries, HasNoneFrom, IsNext};
 
@@ -27,10 +28,12 @@ pub trait Index {
     /// needs `spare` to be at least 1, which then falls by one.
     fn set(&mut self, key: Bytes, entry: Entry)
         requires room { IfNone (finite.get (entries self.old) key) (0 < spare self.old) }
-        requires few { IfNone (finite.get (entries self.old) key) (finite.len (entries self.old) < 2 ^ 32 - 1) }
+        requires few { IfNone (finite.get (entries self.old) key) (finite.len (entries self.old)
+            < 2 ^ 32 - 1) }
         ensures value { entries self.new ≡ finite.insert (entries self.old) key entry }
         ensures spare { spare self.new
-            ≡ (if finite.contains_key (entries self.old) key then spare self.old else spare self.old - 1) };
+            ≡ (if finite.contains_key (entries self.old) key then spare self.old
+            else spare self.old - 1) };
 
     /// Takes the key out, and answers its entry. `None` exactly where there was none. Takes no
     /// memory.
@@ -39,8 +42,8 @@ pub trait Index {
         ensures rest { entries self.new ≡ finite.remove (entries self.old) key.now }
         ensures spare { spare self.old ≤ spare self.new };
 
-    /// The least key at or after this one, and its entry. `None` exactly where there is none. What it
-    /// lends lives as long as the index stays as it is.
+    /// The least key at or after this one, and its entry. `None` exactly where there is none. What
+    /// it lends lives as long as the index stays as it is.
     fn next_at_or_after(&self, key: &[u8]) -> Option<(&[u8], Entry)>
         ensures next { MatchOption result (HasNoneFrom (entries self.now) key.now)
             (λ next. IsNext (entries self.now) key.now next.0.now next.1) };

@@ -1,10 +1,12 @@
 -- Sums of bytes by lanes.
-use Rattle.std.proofs.Common.{◌≡◌, ℕ, ◌+◌, ◌-◌, ◌*◌, ◌<◌, ◌≤◌, List, [], ◌∷◌, length, get_or, take, drop, replicate, sum, refl, sym, ap, ◌∙◌, subst, arith}
+use Rattle.std.proofs.Common.{◌≡◌, ℕ, ◌+◌, ◌-◌, ◌*◌, ◌<◌, ◌≤◌, List, [], ◌∷◌, length, get_or, take}
+use Rattle.std.proofs.Common.{drop, replicate, sum, refl, sym, ap, ◌∙◌, subst, arith}
 use Rattle.kv_lanes.proofs.LaneLemmas.{rest_is}
 use Rattle.std.specs.Simd.Lanes.{zip2, chunk, dots, sum_l}
 use Rattle.std.proofs.Math.Seq.{take-add}
 use Rattle.std.proofs.lemmas.List.Sums.{sum_by-append, sum_by-take-drop, sum_by-cons}
-use Rattle.std.proofs.lemmas.Simd.{length-chunk, length-zip2, sum-zip2, sum_dots, sum_by-ones, sum_bound, Each1-from_get_or}
+use Rattle.std.proofs.lemmas.Simd.{length-chunk, length-zip2, sum-zip2, sum_dots, sum_by-ones}
+use Rattle.std.proofs.lemmas.Simd.{sum_bound, Each1-from_get_or}
 
 sum_is : (xs : List ℕ) → sum_l xs ≡ sum xs
 sum_is [] = refl

@@ -1,10 +1,13 @@
 -- Replies that are those of one plain map, whose history is read at each reply's stamp.
-use Rattle.std.specs.Prelude.{◌≡◌, ◌≢◌, ℕ, ◌^◌, ◌<◌, List, ◌++◌, length, Option, None, Some, Bool, IsTrue, MatchOption, is_some, if◌then◌else◌, ⊤}
+use Rattle.std.specs.Prelude.{◌≡◌, ◌≢◌, ℕ, ◌^◌, ◌<◌, List, ◌++◌, length, Option, None, Some, Bool}
+use Rattle.std.specs.Prelude.{IsTrue, MatchOption, is_some, if◌then◌else◌, ⊤}
 use Rattle.std.specs.List.{AllByRecursion}
 use Rattle.kv_base.specs.declared.request.Request.{Request}
 use Rattle.kv_base.specs.declared.request.Request.TheVariants.{Put, Get}
 use Rattle.kv_base.specs.declared.reply.Reply.{Reply}
-use Rattle.kv_base.specs.declared.reply.Reply.TheVariants.{Stored, Found, Missing, BadKey, TooLarge, Full, NoMemory, DiskFault, Unsure, Closed, Malformed}
+use Rattle.kv_base.specs.declared.reply.Reply.TheVariants.{Stored, Found, Missing, BadKey, TooLarge}
+use Rattle.kv_base.specs.declared.reply.Reply.TheVariants.{Full, NoMemory, DiskFault, Unsure}
+use Rattle.kv_base.specs.declared.reply.Reply.TheVariants.{Closed, Malformed}
 use Rattle.kv_model.specs.Pairwise.{Pairwise}
 use Rattle.kv_model.specs.History.{Write, value_at}
 use Rattle.kv_model.specs.Layout.{Layout, is_key_length, class_of}
@@ -12,10 +15,13 @@ use Rattle.kv_model.specs.Pairs.{Pair, writes, stamps}
 
 -- the refusal that the sizes of the request demand
 abbrev pub refusal_of : Layout → Request → Option Reply
-refusal_of layout (Put key value) = if is_key_length layout (length key) then (if is_some (class_of layout (length key) (length value)) then None else Some TooLarge) else Some BadKey
+refusal_of layout (Put key value) = if is_key_length layout (length key)
+    then (if is_some (class_of layout (length key) (length value)) then None else Some TooLarge)
+    else Some BadKey
 refusal_of layout (Get key) = if is_key_length layout (length key) then None else Some BadKey
 
--- the value that was read is the one kept; where the disk doesn't tell its content, nothing is said of its bytes
+-- the value that was read is the one kept; where the disk doesn't tell its content, nothing is said
+-- of its bytes
 abbrev pub IsRead : Bool → Option (List ℕ) → List ℕ → Type 0
 IsRead told None value = ⊥
 IsRead told (Some kept) value = IsTrue told → value ≡ kept
@@ -27,14 +33,16 @@ IsMapAnswer told layout history (Put key value) (Found stamp found) = ⊥
 IsMapAnswer told layout history (Put key value) (Missing stamp) = ⊥
 IsMapAnswer told layout history (Put key value) BadKey = ⊥
 IsMapAnswer told layout history (Put key value) TooLarge = ⊥
-IsMapAnswer told layout history (Put key value) (Full class) = class_of layout (length key) (length value) ≡ Some class
+IsMapAnswer told layout history (Put key value) (Full class) =
+    class_of layout (length key) (length value) ≡ Some class
 IsMapAnswer told layout history (Put key value) NoMemory = ⊤
 IsMapAnswer told layout history (Put key value) DiskFault = ⊥
 IsMapAnswer told layout history (Put key value) (Unsure stamp) = ⊤
 IsMapAnswer told layout history (Put key value) Closed = ⊤
 IsMapAnswer told layout history (Put key value) (Malformed offset) = ⊥
 IsMapAnswer told layout history (Get key) (Stored stamp) = ⊥
-IsMapAnswer told layout history (Get key) (Found stamp found) = IsRead told (value_at history stamp key) found
+IsMapAnswer told layout history (Get key) (Found stamp found) =
+    IsRead told (value_at history stamp key) found
 IsMapAnswer told layout history (Get key) (Missing stamp) = value_at history stamp key ≡ None
 IsMapAnswer told layout history (Get key) BadKey = ⊥
 IsMapAnswer told layout history (Get key) TooLarge = ⊥
@@ -47,11 +55,17 @@ IsMapAnswer told layout history (Get key) (Malformed offset) = ⊥
 
 -- the reply is the refusal that the sizes demand, or the map's answer where they demand none
 abbrev pub IsAnswer : Bool → Layout → List Write → Request → Reply → Type 0
-IsAnswer told layout history request reply = MatchOption (refusal_of layout request) (IsMapAnswer told layout history request reply) (λ refusal. reply ≡ refusal)
+IsAnswer told layout history request reply =
+    MatchOption (refusal_of layout request) (IsMapAnswer told layout history request reply)
+    (λ refusal. reply ≡ refusal)
 
--- the replies are those of one plain map that began with the earlier writes and has the acknowledged ones
-pub record AgreesWithMap (told : Bool) (layout : Layout) (before : List Write) (floor : ℕ) (pairs : List Pair) : Type 0 where
+-- the replies are those of one plain map that began with the earlier writes and has the
+-- acknowledged ones
+pub record AgreesWithMap (told : Bool) (layout : Layout) (before : List Write) (floor : ℕ)
+    (pairs : List Pair) : Type 0 where
   pub distinct : Pairwise (λ stamp other. stamp ≢ other) (stamps pairs)
   pub above : AllByRecursion (λ stamp. (floor < stamp) × (stamp < 2 ^ 62)) (stamps pairs)
-  pub fresh : AllByRecursion (λ stamp. AllByRecursion (λ write. write.stamp < stamp) before) (stamps pairs)
-  pub replies : AllByRecursion (λ pair. IsAnswer told layout (before ++ writes pairs) pair.request pair.reply) pairs
+  pub fresh : AllByRecursion (λ stamp. AllByRecursion (λ write. write.stamp < stamp) before)
+      (stamps pairs)
+  pub replies : AllByRecursion (λ pair. IsAnswer told layout (before ++ writes pairs) pair.request
+      pair.reply) pairs

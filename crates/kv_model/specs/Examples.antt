@@ -49,39 +49,56 @@ malformed_8_bytes = 9 ∷ 0 ∷ 0 ∷ 0 ∷ 0xE9 ∷ 8 ∷ 0 ∷ 0 ∷ 0 ∷ 0 �
 
 -- a put and a get, answered
 abbrev pub PutAndGet : Type 0
-PutAndGet = HasTranscript (put_a_bytes ++ get_a_bytes) true (stored_1_bytes ++ found_2_bytes) [] End (put_a ∷ Get key_a ∷ []) (Stored 1 ∷ Found 2 value_1 ∷ [])
+PutAndGet = HasTranscript (put_a_bytes ++ get_a_bytes) true (stored_1_bytes ++ found_2_bytes) [] End
+    (put_a ∷ Get key_a ∷ []) (Stored 1 ∷ Found 2 value_1 ∷ [])
 
 -- a get of a key that has no value
 abbrev pub GetOfNothing : Type 0
-GetOfNothing = HasTranscript get_a_bytes true missing_1_bytes [] End (Get key_a ∷ []) (Missing 1 ∷ [])
+GetOfNothing = HasTranscript get_a_bytes true missing_1_bytes [] End (Get key_a ∷ []) (Missing 1
+    ∷ [])
 
 -- a put with an empty key is refused, and the put behind it has the first stamp
 abbrev pub RefusedThenPut : Type 0
-RefusedThenPut = HasTranscript ((3 ∷ 0 ∷ 0 ∷ 0 ∷ 1 ∷ 0 ∷ 0x31 ∷ []) ++ put_a_bytes) true ((1 ∷ 0 ∷ 0 ∷ 0 ∷ 0xE1 ∷ []) ++ stored_1_bytes) [] End (Put [] value_1 ∷ put_a ∷ []) (BadKey ∷ Stored 1 ∷ [])
+RefusedThenPut = HasTranscript ((3 ∷ 0 ∷ 0 ∷ 0 ∷ 1 ∷ 0 ∷ 0x31 ∷ []) ++ put_a_bytes) true
+    ((1 ∷ 0 ∷ 0 ∷ 0 ∷ 0xE1 ∷ []) ++ stored_1_bytes) [] End (Put [] value_1 ∷ put_a ∷ [])
+    (BadKey ∷ Stored 1 ∷ [])
 
 -- the input ends inside the second frame
 abbrev pub CutInside : Type 0
-CutInside = HasTranscript (put_a_bytes ++ 4 ∷ 0 ∷ 0 ∷ 0 ∷ 1 ∷ 1 ∷ []) true (stored_1_bytes ++ malformed_8_bytes) [] (Malformed 8) (put_a ∷ []) (Stored 1 ∷ [])
+CutInside = HasTranscript (put_a_bytes ++ 4 ∷ 0 ∷ 0 ∷ 0 ∷ 1 ∷ 1 ∷ []) true (stored_1_bytes
+    ++ malformed_8_bytes) [] (Malformed 8) (put_a ∷ []) (Stored 1 ∷ [])
 
 -- the sink took the first reply and failed at the second
 abbrev pub SinkFails : Type 0
-SinkFails = HasTranscript (put_a_bytes ++ get_a_bytes) true stored_1_bytes (Found 2 value_1 ∷ []) SinkFault (put_a ∷ Get key_a ∷ []) (Stored 1 ∷ Found 2 value_1 ∷ [])
+SinkFails = HasTranscript (put_a_bytes ++ get_a_bytes) true stored_1_bytes (Found 2 value_1 ∷ [])
+    SinkFault (put_a ∷ Get key_a ∷ []) (Stored 1 ∷ Found 2 value_1 ∷ [])
 
 -- the pairs of a put and a get
 abbrev pub put_and_get : List Pair
-put_and_get = record { request = put_a; reply = Stored 1 } ∷ record { request = Get key_a; reply = Found 2 value_1 } ∷ []
+put_and_get = record { request = put_a; reply = Stored 1 } ∷ record {
+  request = Get key_a;
+  reply = Found 2 value_1;
+} ∷ []
 
 -- a put and a get behind it that say the opposite of what was written
 abbrev pub get_and_put : Pair × Pair
-get_and_put = (record { request = put_a; reply = Stored 2 }, record { request = Get key_a; reply = Missing 1 })
+get_and_put = (
+  record { request = put_a; reply = Stored 2 },
+  record {
+    request = Get key_a;
+    reply = Missing 1;
+  },
+)
 
 -- stamps that fall are in no session's order, neither in one group nor in two
 abbrev pub StampsRise : Type 0
-StampsRise = (RespectsOrder ((get_and_put.0 ∷ get_and_put.1 ∷ []) ∷ []) → ⊥) × (RespectsOrder ((get_and_put.0 ∷ []) ∷ (get_and_put.1 ∷ []) ∷ []) → ⊥)
+StampsRise = (RespectsOrder ((get_and_put.0 ∷ get_and_put.1 ∷ []) ∷ []) → ⊥)
+    × (RespectsOrder ((get_and_put.0 ∷ []) ∷ (get_and_put.1 ∷ []) ∷ []) → ⊥)
 
 -- a slot of class 1 with a at stamp 258 and the value 1
 abbrev pub slot_a : List ℕ
-slot_a = 2 ∷ 1 ∷ 0 ∷ 0 ∷ 0 ∷ 0 ∷ 0 ∷ 0 ∷ 1 ∷ 0 ∷ 1 ∷ 0 ∷ 1 ∷ 0 ∷ 0 ∷ 0 ∷ 0x61 ∷ 0x31 ∷ replicate 46 0
+slot_a = 2 ∷ 1 ∷ 0 ∷ 0 ∷ 0 ∷ 0 ∷ 0 ∷ 0 ∷ 1 ∷ 0 ∷ 1 ∷ 0 ∷ 1 ∷ 0 ∷ 0 ∷ 0 ∷ 0x61 ∷ 0x31 ∷ replicate 46
+    0
 
 -- a slot of class 1 with a tombstone of stamp 258 that links to slot 4
 abbrev pub tombstone_4 : List ℕ
@@ -89,4 +106,5 @@ tombstone_4 = 2 ∷ 1 ∷ 0 ∷ 0 ∷ 0 ∷ 0 ∷ 0 ∷ 0 ∷ 2 ∷ 0 ∷ 0 ∷ 
 
 -- the head page of worker 2 of 3
 abbrev pub head_2_of_3 : List ℕ
-head_2_of_3 = 0x4b ∷ 0x56 ∷ 0x50 ∷ 0x41 ∷ 0x47 ∷ 0x45 ∷ 0x44 ∷ 0x31 ∷ 1 ∷ 0 ∷ 2 ∷ 0 ∷ 3 ∷ 0 ∷ replicate 4082 0
+head_2_of_3 = 0x4b ∷ 0x56 ∷ 0x50 ∷ 0x41 ∷ 0x47 ∷ 0x45 ∷ 0x44 ∷ 0x31 ∷ 1 ∷ 0 ∷ 2 ∷ 0 ∷ 3 ∷ 0
+    ∷ replicate 4082 0

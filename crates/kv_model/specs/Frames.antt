@@ -1,11 +1,14 @@
 -- Frames: a length in four bytes, least first, and as many bytes of a kind and a body.
-use Rattle.std.specs.Prelude.{◌≡◌, ℕ, ◌+◌, ◌^◌, ◌<◌, ◌≤◌, List, [], ◌∷◌, ◌++◌, length, take, Bool, true, false, ⊤}
+use Rattle.std.specs.Prelude.{◌≡◌, ℕ, ◌+◌, ◌^◌, ◌<◌, ◌≤◌, List, [], ◌∷◌, ◌++◌, length, take, Bool}
+use Rattle.std.specs.Prelude.{true, false, ⊤}
 use Rattle.std.specs.List.{AllByRecursion, flat_map}
 use Rattle.std.specs.Int.{w32, w64, to_le_bytes, from_le_bytes}
 use Rattle.kv_base.specs.declared.request.Request.{Request}
 use Rattle.kv_base.specs.declared.request.Request.TheVariants.{Put, Get}
 use Rattle.kv_base.specs.declared.reply.Reply.{Reply}
-use Rattle.kv_base.specs.declared.reply.Reply.TheVariants.{Stored, Found, Missing, BadKey, TooLarge, Full, NoMemory, DiskFault, Unsure, Closed, Malformed}
+use Rattle.kv_base.specs.declared.reply.Reply.TheVariants.{Stored, Found, Missing, BadKey, TooLarge}
+use Rattle.kv_base.specs.declared.reply.Reply.TheVariants.{Full, NoMemory, DiskFault, Unsure}
+use Rattle.kv_base.specs.declared.reply.Reply.TheVariants.{Closed, Malformed}
 
 -- the content behind its length
 abbrev pub framed : List ℕ → List ℕ
@@ -82,7 +85,8 @@ pub record BeginsWithRequest (bytes : List ℕ) (request : Request) (rest : List
 
 -- no request's frame begins the bytes
 abbrev pub BeginsWithNoRequest : List ℕ → Type 0
-BeginsWithNoRequest bytes = (request : Request) (rest : List ℕ) → BeginsWithRequest bytes request rest → ⊥
+BeginsWithNoRequest bytes = (request : Request) (rest : List ℕ)
+    → BeginsWithRequest bytes request rest → ⊥
 
 -- the bytes are the reply's frame and then the rest
 pub record BeginsWithReply (bytes : List ℕ) (reply : Reply) (rest : List ℕ) : Type 0 where
@@ -95,22 +99,27 @@ BeginsWithNoReply bytes = (reply : Reply) (rest : List ℕ) → BeginsWithReply 
 
 -- fewer than four bytes are there, or a length in range and fewer bytes than it says
 abbrev pub IsPartial : List ℕ → Type 0
-IsPartial bytes = 4 ≤ length bytes → (1 ≤ stated_length bytes) × (stated_length bytes ≤ longest_content) × (length bytes < 4 + stated_length bytes)
+IsPartial bytes = 4 ≤ length bytes → (1 ≤ stated_length bytes)
+    × (stated_length bytes ≤ longest_content) × (length bytes < 4 + stated_length bytes)
 
--- a length is there, and all bytes that it asks for where it is in range; still no request begins the bytes
+-- a length is there, and all bytes that it asks for where it is in range; still no request begins
+-- the bytes
 pub record IsMalformed (bytes : List ℕ) : Type 0 where
   pub length_there : 4 ≤ length bytes
-  pub all_there : 1 ≤ stated_length bytes → stated_length bytes ≤ longest_content → 4 + stated_length bytes ≤ length bytes
+  pub all_there : 1 ≤ stated_length bytes → stated_length bytes ≤ longest_content
+      → 4 + stated_length bytes ≤ length bytes
   pub none : BeginsWithNoRequest bytes
 
 -- the same of a reply
 pub record IsMalformedReply (bytes : List ℕ) : Type 0 where
   pub length_there : 4 ≤ length bytes
-  pub all_there : 1 ≤ stated_length bytes → stated_length bytes ≤ longest_content → 4 + stated_length bytes ≤ length bytes
+  pub all_there : 1 ≤ stated_length bytes → stated_length bytes ≤ longest_content
+      → 4 + stated_length bytes ≤ length bytes
   pub none : BeginsWithNoReply bytes
 
 -- the bytes are the frames of these requests and then the rest
-pub record BeginsWithRequests (bytes : List ℕ) (requests : List Request) (rest : List ℕ) : Type 0 where
+pub record BeginsWithRequests (bytes : List ℕ) (requests : List Request)
+    (rest : List ℕ) : Type 0 where
   pub parts : bytes ≡ flat_map request_frame requests ++ rest
   pub each : AllByRecursion HasRequestFrame requests
 

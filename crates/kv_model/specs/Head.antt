@@ -10,7 +10,8 @@ magic = 0x4b ∷ 0x56 ∷ 0x50 ∷ 0x41 ∷ 0x47 ∷ 0x45 ∷ 0x44 ∷ 0x31 ∷ 
 
 -- the head page of this worker of so many
 unfoldable pub head_page : ℕ → ℕ → List ℕ
-head_page worker workers = padded page_size (magic ++ to_le_bytes w16 1 ++ to_le_bytes w16 worker ++ to_le_bytes w16 workers)
+head_page worker workers = padded page_size (magic ++ to_le_bytes w16 1 ++ to_le_bytes w16 worker
+    ++ to_le_bytes w16 workers)
 
 -- a worker of 1 to 16
 pub record IsWorker (worker workers : ℕ) : Type 0 where

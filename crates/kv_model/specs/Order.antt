@@ -6,13 +6,16 @@ use Rattle.kv_model.specs.Pairs.{Pair, key_of, stamp_of, stamps}
 
 -- each stamp of the second group is above each stamp of the first
 abbrev pub IsAfter : List Pair → List Pair → Type 0
-IsAfter group next = AllByRecursion (λ stamp. AllByRecursion (λ other. stamp < other) (stamps next)) (stamps group)
+IsAfter group next = AllByRecursion (λ stamp. AllByRecursion (λ other. stamp < other) (stamps next))
+    (stamps group)
 
 -- where both replies carry a stamp, the second is above the first
 abbrev pub Rises : Pair → Pair → Type 0
-Rises pair next = MatchOption (stamp_of pair.reply) ⊤ (λ stamp. MatchOption (stamp_of next.reply) ⊤ (λ other. stamp < other))
+Rises pair next = MatchOption (stamp_of pair.reply) ⊤ (λ stamp. MatchOption (stamp_of next.reply) ⊤
+    (λ other. stamp < other))
 
 -- stamps rise from group to group, and within a group for each key
 pub record RespectsOrder (groups : List (List Pair)) : Type 0 where
   pub across : Pairwise IsAfter groups
-  pub within : AllByRecursion (λ group. Pairwise (λ pair next. key_of pair.request ≡ key_of next.request → Rises pair next) group) groups
+  pub within : AllByRecursion (λ group. Pairwise (λ pair next. key_of pair.request
+      ≡ key_of next.request → Rises pair next) group) groups

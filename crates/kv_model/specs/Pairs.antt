@@ -4,7 +4,9 @@ use Rattle.std.specs.List.{filter_map}
 use Rattle.kv_base.specs.declared.request.Request.{Request}
 use Rattle.kv_base.specs.declared.request.Request.TheVariants.{Put, Get}
 use Rattle.kv_base.specs.declared.reply.Reply.{Reply}
-use Rattle.kv_base.specs.declared.reply.Reply.TheVariants.{Stored, Found, Missing, BadKey, TooLarge, Full, NoMemory, DiskFault, Unsure, Closed, Malformed}
+use Rattle.kv_base.specs.declared.reply.Reply.TheVariants.{Stored, Found, Missing, BadKey, TooLarge}
+use Rattle.kv_base.specs.declared.reply.Reply.TheVariants.{Full, NoMemory, DiskFault, Unsure}
+use Rattle.kv_base.specs.declared.reply.Reply.TheVariants.{Closed, Malformed}
 use Rattle.kv_model.specs.History.{Write}
 
 -- a request and its reply

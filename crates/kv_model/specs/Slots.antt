@@ -1,5 +1,6 @@
 -- What stands in a slot: how its bytes read under a layout.
-use Rattle.std.specs.Prelude.{ℕ, ◌-◌, List, [], ◌∷◌, ◌++◌, take, drop, Option, None, Some, Bool, true, false, ◌==◌, if◌then◌else◌}
+use Rattle.std.specs.Prelude.{ℕ, ◌-◌, List, [], ◌∷◌, ◌++◌, take, drop, Option, None, Some, Bool}
+use Rattle.std.specs.Prelude.{true, false, ◌==◌, if◌then◌else◌}
 use Rattle.std.specs.List.{flat_map, list_all}
 use Rattle.std.specs.Int.{w16, w32, w64, from_le_bytes}
 use Rattle.kv_model.specs.Layout.{Layout, class_of}
@@ -45,19 +46,25 @@ abbrev pub is_class : Option ℕ → ℕ → Bool
 is_class None class = false
 is_class (Some found) class = found == class
 
--- a slot of kind item reads so: an item where its lengths make this class, torn where its pages differ in their stamps
+-- a slot of kind item reads so: an item where its lengths make this class, torn where its pages
+-- differ in their stamps
 abbrev pub read_item : Layout → ℕ → ℕ → ℕ → ℕ → List ℕ → Bool → Slot
 read_item layout class stamp key_length value_length content whole =
     if is_class (class_of layout key_length value_length) class
-    then (if whole then Item stamp (take key_length content) (take value_length (drop key_length content)) else Torn stamp)
+    then (if whole
+    then Item stamp (take key_length content) (take value_length (drop key_length content))
+    else Torn stamp)
     else Bad stamp
 
--- a slot with this header and content reads so; whole tells whether all its pages have the header's stamp
+-- a slot with this header and content reads so; whole tells whether all its pages have the header's
+-- stamp
 abbrev pub read_parts : Layout → ℕ → List ℕ → List ℕ → Bool → Slot
 read_parts layout class header content whole =
     if kind_field header == 0 then Never (stamp_field header)
-    else (if kind_field header == 1 then read_item layout class (stamp_field header) (key_length_field header) (last_field header) content whole
-    else (if kind_field header == 2 then Tombstone (stamp_field header) (link_named (last_field header))
+    else (if kind_field header == 1 then read_item layout class (stamp_field header)
+    (key_length_field header) (last_field header) content whole
+    else (if kind_field header == 2
+    then Tombstone (stamp_field header) (link_named (last_field header))
     else Bad (stamp_field header)))
 
 -- a slot of the classes 1 to 7 with these bytes reads so
@@ -68,4 +75,5 @@ read_small layout class bytes = read_parts layout class (take 16 bytes) (drop 16
 unfoldable pub read_large : Layout → ℕ → List (List ℕ) → Slot
 read_large layout class [] = Never 0
 read_large layout class (first ∷ later) =
-    read_parts layout class (take 16 first) (drop 16 first ++ flat_map (λ page. drop 8 page) later) (list_all (λ page. stamp_field page == stamp_field first) later)
+    read_parts layout class (take 16 first) (drop 16 first ++ flat_map (λ page. drop 8 page) later)
+    (list_all (λ page. stamp_field page == stamp_field first) later)

@@ -8,7 +8,8 @@ use crate::write::Recorded;
 
 /// The key's write with the greatest stamp not above the given one.
 pub fn find_latest<'a>(writes: &'a [Recorded], stamp: u64, key: &[u8]) -> Option<&'a Recorded>
-    ensures { option_map write_of (option_copied result) ≡ latest (history_of writes.now) stamp key.now }
+    ensures { option_map write_of (option_copied result) ≡ latest (history_of writes.now) stamp
+        key.now }
 {
     let mut best: Option<&Recorded> = None;
     for write in writes {
@@ -28,7 +29,8 @@ fn counts(write: &Recorded, stamp: u64, key: &[u8]) -> bool
 
 /// The one with the greater stamp, and of equal stamps the first.
 fn the_later<'a>(best: Option<&'a Recorded>, write: &'a Recorded) -> &'a Recorded
-    ensures { write_of result.now ≡ preferred (option_map write_of (option_copied best.entry)) (write_of write.now) }
+    ensures { write_of result.now ≡ preferred (option_map write_of (option_copied best.entry))
+        (write_of write.now) }
 {
     match best {
         Some(best) if best.stamp >= write.stamp => best,
@@ -38,7 +40,8 @@ fn the_later<'a>(best: Option<&'a Recorded>, write: &'a Recorded) -> &'a Recorde
 
 /// The value of the write, where there is one.
 pub fn value_of<'a>(write: Option<&'a Recorded>) -> Option<&'a [u8]>
-    ensures { option_copied result ≡ option_and_then (λ write. write.value) (option_map write_of (option_copied write.entry)) }
+    ensures { option_copied result ≡ option_and_then (λ write. write.value)
+        (option_map write_of (option_copied write.entry)) }
 {
     match write {
         None => None,

@@ -7,7 +7,8 @@ use kv_base::{Bytes, NoMemory};
 use std::alloc::Global;
 use std::marker::Model;
 
-/// A plain program over a list of writes, with which a store can be compared. Contracts see the list.
+/// A plain program over a list of writes, with which a store can be compared. Contracts see the
+/// list.
 #[derive(Debug, Drop)]
 pub struct Oracle {
     alloc: Global,
@@ -38,9 +39,14 @@ impl Oracle {
         }
     }
 
-    /// Adds a write; no value is a deletion. The one error is want of memory, and then the list is as before.
+    /// Adds a write; no value is a deletion. The one error is want of memory, and then the list is
+    /// as before.
     pub fn write(&mut self, stamp: u64, key: &[u8], value: Option<&[u8]>) -> Result<(), NoMemory>
-        ensures ok { OnOk result (self.new ≡ self.old ++ record { stamp = stamp; key = key.now; value = option_copied value.entry } ∷ []) }
+        ensures ok { OnOk result (self.new ≡ self.old ++ record {
+          stamp = stamp;
+          key = key.now;
+          value = option_copied value.entry;
+        } ∷ []) }
         ensures err { OnErr result (self.new ≡ self.old) }
     {
         let key = Bytes::copy(self.alloc, key)?;
@@ -52,8 +58,8 @@ impl Oracle {
         Ok(())
     }
 
-    /// What the key has at the stamp: the value of its write with the greatest stamp not above that.
-    /// `None` where there is no such write or it is a deletion.
+    /// What the key has at the stamp: the value of its write with the greatest stamp not above
+    /// that. `None` where there is no such write or it is a deletion.
     pub fn value_at(&self, stamp: u64, key: &[u8]) -> Option<&[u8]>
         ensures { option_copied result ≡ value_at self.now stamp key.now }
     {

@@ -6,7 +6,9 @@ ghost use Rattle.kv_model.specs.Head.{head_page};
 ghost use Rattle.kv_model.specs.Reading.{page_of, offset_of};
 ghost use Rattle.kv_model.specs.Agreement.{AgreesWithMap};
 ghost use Rattle.kv_model.specs.Order.{RespectsOrder};
-ghost use Rattle.kv_model.specs.Examples.{PutAndGet, GetOfNothing, RefusedThenPut, CutInside, SinkFails, put_and_get, slot_a, tombstone_4, head_2_of_3, key_a, value_1};
+ghost use Rattle.kv_model.specs.Examples.{PutAndGet, GetOfNothing, RefusedThenPut, CutInside};
+ghost use Rattle.kv_model.specs.Examples.{SinkFails, put_and_get, slot_a, tombstone_4, head_2_of_3};
+ghost use Rattle.kv_model.specs.Examples.{key_a, value_1};
 
 use super::*;
 use std::test::Fail;

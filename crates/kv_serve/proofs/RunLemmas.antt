@@ -1,5 +1,7 @@
 -- Lemmas on what a session did.
-use Rattle.std.proofs.Common.{◌≡◌, ◌≢◌, ℕ, ◌+◌, ◌^◌, ◌<◌, ◌≤◌, Bool, true, List, [], ◌∷◌, ◌++◌, length, drop, Result, Ok, Err, OnOk, IfErr, MatchResult, inl, inr, refl, sym, ap, subst, ◌∙◌, arith, append_assoc, length-append}
+use Rattle.std.proofs.Common.{◌≡◌, ◌≢◌, ℕ, ◌+◌, ◌^◌, ◌<◌, ◌≤◌, Bool, true, List, [], ◌∷◌, ◌++◌}
+use Rattle.std.proofs.Common.{length, drop, Result, Ok, Err, OnOk, IfErr, MatchResult, inl, inr}
+use Rattle.std.proofs.Common.{refl, sym, ap, subst, ◌∙◌, arith, append_assoc, length-append}
 use Rattle.std.specs.List.{AllByRecursion, flat_map}
 use Rattle.std.proofs.lemmas.List.{append-nil}
 use Rattle.std.proofs.lemmas.List.Concat.{flat_map-append}
@@ -7,16 +9,19 @@ use Rattle.kv_base.specs.declared.request.Request.{Request}
 use Rattle.kv_base.specs.declared.reply.Reply.{Reply}
 use Rattle.kv_base.specs.declared.reply.Reply.TheVariants as reply
 use Rattle.kv_base.specs.declared.cause.Cause.{Cause}
-use Rattle.kv_base.specs.declared.cause.Cause.TheVariants.{End, Malformed, Limit, SourceFault, SinkFault}
+use Rattle.kv_base.specs.declared.cause.Cause.TheVariants.{End, Malformed, Limit, SourceFault}
+use Rattle.kv_base.specs.declared.cause.Cause.TheVariants.{SinkFault}
 use Rattle.kv_base.specs.Fault.{Rose}
 use Rattle.kv_base.specs.Stream.{Passes, IsSpent, Takes}
 use Rattle.kv_model.specs.Pairs.{Pair}
-use Rattle.kv_model.specs.Frames.{HasRequestFrame, request_frame, HasReplyFrame, reply_frame, BeginsWithRequest, BeginsWithRequests}
+use Rattle.kv_model.specs.Frames.{HasRequestFrame, request_frame, HasReplyFrame, reply_frame}
+use Rattle.kv_model.specs.Frames.{BeginsWithRequest, BeginsWithRequests}
 use Rattle.kv_model.specs.Transcript.{GoesOut, ClosesMalformed, Closes, Leaves}
 use Rattle.kv_frames.specs.Parse.{IsWhole}
 use Rattle.kv_serve.specs.declared.fill.Ready.{Ready}
 use Rattle.kv_serve.specs.declared.fill.Ready.TheVariants as ready
-use Rattle.kv_serve.specs.Session.{SessionState, IsReady, IsNew, Arrives, IsAtEnd, IsStuck, GoesOn, KeepsTaken, TakesPart}
+use Rattle.kv_serve.specs.Session.{SessionState, IsReady, IsNew, Arrives, IsAtEnd, IsStuck, GoesOn}
+use Rattle.kv_serve.specs.Session.{KeepsTaken, TakesPart}
 use Rattle.kv_serve.specs.Run.{Streams, pairs_of, Runs, Answers, AnswersAll, EndsBy, Ends}
 use Rattle.kv_serve.proofs.SessionLemmas.{Passes-nil, Passes-trans, Takes-nil, Takes-trans}
 

@@ -1,6 +1,10 @@
 -- Lemmas on what a session took and gave.
-use Rattle.std.proofs.Common.{◌≡◌, ℕ, ◌+◌, ◌-◌, ◌≤◌, take, drop, false, List, [], ◌++◌, length, Option, None, Some, refl, sym, ap, subst, ◌∙◌, arith, append_assoc, length-append}
-use Rattle.std.proofs.lemmas.List.{append-nil, take_at, drop_at, take-take, take-append-drop, take-append-le, drop-take, drop-append-le, length-take-le, length-take, length-drop, take_rest}
+use Rattle.std.proofs.Common.{◌≡◌, ℕ, ◌+◌, ◌-◌, ◌≤◌, take, drop, false, List, [], ◌++◌, length}
+use Rattle.std.proofs.Common.{Option, None, Some, refl, sym, ap, subst, ◌∙◌, arith, append_assoc}
+use Rattle.std.proofs.Common.{length-append}
+use Rattle.std.proofs.lemmas.List.{append-nil, take_at, drop_at, take-take, take-append-drop}
+use Rattle.std.proofs.lemmas.List.{take-append-le, drop-take, drop-append-le, length-take-le}
+use Rattle.std.proofs.lemmas.List.{length-take, length-drop, take_rest}
 use Rattle.kv_base.specs.Stream.{Stream, Passes, Takes}
 use Rattle.kv_model.specs.Frames.{BeginsWithNoRequest, IsMalformed}
 use Rattle.kv_serve.specs.Session.{SessionState, Arrives, NeedsMore, StaysDecided}

@@ -1,17 +1,18 @@
 -- What the pairs of a whole run owe, over the disk as it was and as it is.
-use Rattle.std.specs.Prelude.{ℕ, List, [], ◌∷◌, map, false}
-use Rattle.std.specs.List.{AllByRecursion}
+use Rattle.std.specs.Prelude.{List, [], ◌∷◌, map, false}
 use Rattle.kv_disk.specs.declared.disk.Disk.{Ghosts}
 use Rattle.kv_model.specs.Layout.{only_class}
-use Rattle.kv_model.specs.Pairs.{Pair, writes}
+use Rattle.kv_model.specs.Pairs.{Pair}
 use Rattle.kv_model.specs.Agreement.{AgreesWithMap}
 use Rattle.kv_model.specs.Order.{RespectsOrder}
-use Rattle.kv_serve.specs.Causes.{RoseBy, faults_of, ClosesBehindUnsure, IsFullAtLimit}
+use Rattle.kv_serve.specs.Causes.{RoseBy, faults_of, ClosesBehindUnsure, AreFullAtLimit}
 
--- the replies are those of one plain map, in the order of their stamps, and each refusal has its cause
-pub record HasAnswers {D : Type 0} (d : Ghosts D) (before now : D) (pairs : List Pair) : Type 0 where
+-- the replies are those of one plain map, in the order of their stamps, and each refusal has its
+-- cause
+pub record HasAnswers {D : Type 0} (d : Ghosts D) (before now : D)
+    (pairs : List Pair) : Type 0 where
   pub agrees : AgreesWithMap d.tells (only_class 7) [] 0 pairs
   pub ordered : RespectsOrder (map (λ pair. pair ∷ []) pairs)
   pub closes : ClosesBehindUnsure (only_class 7) false pairs
   pub faults : RoseBy (faults_of pairs) (d.faults before) (d.faults now)
-  pub full : AllByRecursion (λ pair. IsFullAtLimit (writes pairs) pair.reply) pairs
+  pub full : AreFullAtLimit [] pairs

@@ -1,12 +1,17 @@
 -- What shows the cause of each refusal.
-use Rattle.std.specs.Prelude.{◌≡◌, ◌≢◌, ℕ, ◌+◌, ◌-◌, ◌^◌, ◌≤◌, ◌↔◌, ◌||◌, ◌⊎◌, min, List, [], ◌∷◌, length, Option, None, Bool, true, false, ⊤}
+use Rattle.std.specs.Prelude.{◌≡◌, ◌≢◌, ℕ, ◌+◌, ◌-◌, ◌^◌, ◌≤◌, ◌↔◌, ◌||◌, min, List, [], ◌∷◌, ◌++◌}
+use Rattle.std.specs.Prelude.{length, Option, None, IsSome, Bool, true, false, ⊤}
 use Rattle.std.specs.List.{AllByRecursion}
+use Rattle.std.specs.Option.{option_to_list}
+use Rattle.kv_base.specs.declared.request.Request.{Request}
 use Rattle.kv_base.specs.declared.reply.Reply.{Reply}
-use Rattle.kv_base.specs.declared.reply.Reply.TheVariants.{Stored, Found, Missing, BadKey, TooLarge, Full, NoMemory, DiskFault, Unsure, Closed, Malformed}
+use Rattle.kv_base.specs.declared.reply.Reply.TheVariants.{Stored, Found, Missing, BadKey, TooLarge}
+use Rattle.kv_base.specs.declared.reply.Reply.TheVariants.{Full, NoMemory, DiskFault, Unsure}
+use Rattle.kv_base.specs.declared.reply.Reply.TheVariants.{Closed, Malformed}
 use Rattle.kv_model.specs.Pairwise.{Pairwise}
-use Rattle.kv_model.specs.History.{Write}
+use Rattle.kv_model.specs.History.{Write, value_at}
 use Rattle.kv_model.specs.Layout.{Layout}
-use Rattle.kv_model.specs.Pairs.{Pair}
+use Rattle.kv_model.specs.Pairs.{Pair, key_of, acknowledged_by}
 use Rattle.kv_model.specs.Agreement.{refusal_of}
 
 -- the count has risen by so many, or stands at the greatest number of its type
@@ -51,38 +56,50 @@ abbrev pub any_unsure : List Pair → Bool
 any_unsure [] = false
 any_unsure (pair ∷ pairs) = is_unsure pair.reply || any_unsure pairs
 
--- the replies are Closed exactly behind one that was unsure, and where the sizes are good; closed tells whether one was before
+-- the replies are Closed exactly behind one that was unsure, and where the sizes are good; closed
+-- tells whether one was before
 abbrev pub ClosesBehindUnsure : Layout → Bool → List Pair → Type 0
 ClosesBehindUnsure layout closed [] = ⊤
 ClosesBehindUnsure layout closed (pair ∷ pairs) =
-    ((pair.reply ≡ Closed) ↔ ((closed ≡ true) × (refusal_of layout pair.request ≡ None))) × ClosesBehindUnsure layout (closed || is_unsure pair.reply) pairs
+    ((pair.reply ≡ Closed) ↔ ((closed ≡ true) × (refusal_of layout pair.request ≡ None)))
+    × ClosesBehindUnsure layout (closed || is_unsure pair.reply) pairs
 
--- a write of the key is in the history
-abbrev pub Writes : List Write → List ℕ → Type 0
-Writes [] key = ⊥
-Writes (write ∷ history) key = (write.key ≡ key) ⊎ Writes history key
+-- what the key has behind all writes of the history
+abbrev pub last_value : List Write → List ℕ → Option (List ℕ)
+last_value history key = value_at history (2 ^ 62 - 1) key
 
--- at least so many keys were written
+-- at least so many keys have a value
 pub record HasKeys (history : List Write) (count : ℕ) : Type 0 where
   pub keys : List (List ℕ)
   pub apart : Pairwise (λ key other. key ≢ other) keys
   pub many : count ≤ length keys
-  pub each : AllByRecursion (λ key. Writes history key) keys
+  pub each : AllByRecursion (λ key. IsSome (last_value history key)) keys
 
 -- the slots of a class
 abbrev pub slot_limit : ℕ
 slot_limit = 1048576
 
--- the reply is Full only where as many keys were written as the class has slots
-abbrev pub IsFullAtLimit : List Write → Reply → Type 0
-IsFullAtLimit history (Stored stamp) = ⊤
-IsFullAtLimit history (Found stamp value) = ⊤
-IsFullAtLimit history (Missing stamp) = ⊤
-IsFullAtLimit history BadKey = ⊤
-IsFullAtLimit history TooLarge = ⊤
-IsFullAtLimit history (Full class) = HasKeys history slot_limit
-IsFullAtLimit history NoMemory = ⊤
-IsFullAtLimit history DiskFault = ⊤
-IsFullAtLimit history (Unsure stamp) = ⊤
-IsFullAtLimit history Closed = ⊤
-IsFullAtLimit history (Malformed offset) = ⊤
+-- the key has no value, and as many keys have one as the class has slots
+pub record HasNoSlot (history : List Write) (key : List ℕ) : Type 0 where
+  pub absent : last_value history key ≡ None
+  pub many : HasKeys history slot_limit
+
+-- the reply is Full only where the key has no slot, and Stored only where it has one
+abbrev pub IsFullAtLimit : List Write → Request → Reply → Type 0
+IsFullAtLimit history request (Stored stamp) = HasNoSlot history (key_of request) → ⊥
+IsFullAtLimit history request (Found stamp value) = ⊤
+IsFullAtLimit history request (Missing stamp) = ⊤
+IsFullAtLimit history request BadKey = ⊤
+IsFullAtLimit history request TooLarge = ⊤
+IsFullAtLimit history request (Full class) = HasNoSlot history (key_of request)
+IsFullAtLimit history request NoMemory = ⊤
+IsFullAtLimit history request DiskFault = ⊤
+IsFullAtLimit history request (Unsure stamp) = ⊤
+IsFullAtLimit history request Closed = ⊤
+IsFullAtLimit history request (Malformed offset) = ⊤
+
+-- the same of each pair, over the history and the writes of the pairs before it
+abbrev pub AreFullAtLimit : List Write → List Pair → Type 0
+AreFullAtLimit history [] = ⊤
+AreFullAtLimit history (pair ∷ pairs) = IsFullAtLimit history pair.request pair.reply
+    × AreFullAtLimit (history ++ option_to_list (acknowledged_by pair.request pair.reply)) pairs

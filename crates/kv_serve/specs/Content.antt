@@ -1,13 +1,16 @@
 -- What the page of a key gives.
 use Rattle.std.specs.Prelude.{◌≡◌, ℕ, List, take, ⊤}
 use Rattle.kv_base.specs.declared.reply.Reply.{Reply}
-use Rattle.kv_base.specs.declared.reply.Reply.TheVariants.{Stored, Found, Missing, BadKey, TooLarge, Full, NoMemory, DiskFault, Unsure, Closed, Malformed}
+use Rattle.kv_base.specs.declared.reply.Reply.TheVariants.{Stored, Found, Missing, BadKey, TooLarge}
+use Rattle.kv_base.specs.declared.reply.Reply.TheVariants.{Full, NoMemory, DiskFault, Unsure}
+use Rattle.kv_base.specs.declared.reply.Reply.TheVariants.{Closed, Malformed}
 use Rattle.kv_model.specs.Layout.{only_class}
 use Rattle.kv_model.specs.Slots.{Item, read_small}
 
 -- the page reads as an item of the key with the value
 abbrev pub ReadsAs : List ℕ → List ℕ → List ℕ → Type 0
-ReadsAs content key value = (stamp : ℕ) × (read_small (only_class 7) 7 (take 4096 content) ≡ Item stamp key value)
+ReadsAs content key value = (stamp : ℕ) × (read_small (only_class 7) 7 (take 4096 content)
+    ≡ Item stamp key value)
 
 -- the reply is the value of the key's item in the page, or want of memory
 abbrev pub IsFoundIn : List ℕ → List ℕ → ℕ → Reply → Type 0

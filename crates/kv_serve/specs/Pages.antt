@@ -12,4 +12,5 @@ place_of pages key = get_by (λ other. slice_cmp nat_cmp key other.items) pages
 
 -- the key has this page now, and every other key the one it had
 abbrev pub Places : BTreeMap (Vec ℕ Global) ℕ → BTreeMap (Vec ℕ Global) ℕ → List ℕ → ℕ → Type 0
-Places old new key page = (other : List ℕ) → place_of new other ≡ (if bytes_eq key other then Some page else place_of old other)
+Places old new key page = (other : List ℕ) → place_of new other ≡ (if bytes_eq key other
+    then Some page else place_of old other)

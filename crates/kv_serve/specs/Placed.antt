@@ -9,8 +9,10 @@ use Rattle.kv_serve.specs.Pages.{place_of}
 -- the keys have pages of their own, and these are the first ones
 pub record IsPlaced (pages : BTreeMap (Vec ℕ Global) ℕ) : Type 0 where
   pub limit : btree_map_len pages ≤ 1048576
-  pub below : (key : List ℕ) (page : ℕ) → place_of pages key ≡ Some page → page < btree_map_len pages
-  pub apart : (key other : List ℕ) (page : ℕ) → place_of pages key ≡ Some page → place_of pages other ≡ Some page → key ≡ other
+  pub below : (key : List ℕ) (page : ℕ) → place_of pages key ≡ Some page
+      → page < btree_map_len pages
+  pub apart : (key other : List ℕ) (page : ℕ) → place_of pages key ≡ Some page
+      → place_of pages other ≡ Some page → key ≡ other
 
 -- the key has the page now, one of the first, and every other key the one it had
 pub record GivesPage (old new : BTreeMap (Vec ℕ Global) ℕ) (key : List ℕ) (page : ℕ) : Type 0 where

@@ -1,9 +1,11 @@
 -- What the command `serve` does, from the site as it was to the site as it is.
-use Rattle.std.specs.Prelude.{◌≡◌, ◌≢◌, ℕ, ◌⊎◌, ◌||◌, List, [], ◌∷◌, length, Option, None, Some, Bool, true, false, IsTrue, if◌then◌else◌}
+use Rattle.std.specs.Prelude.{◌≡◌, ◌≢◌, ℕ, ◌⊎◌, List, [], ◌∷◌, length, Option, None, Some}
+use Rattle.std.specs.Prelude.{Bool, true, false, IsTrue, if◌then◌else◌}
 use Rattle.kv_base.specs.declared.request.Request.{Request}
 use Rattle.kv_base.specs.declared.reply.Reply.{Reply}
 use Rattle.kv_base.specs.declared.cause.Cause.{Cause}
-use Rattle.kv_base.specs.declared.cause.Cause.TheVariants.{End, Malformed, Limit, SourceFault, SinkFault}
+use Rattle.kv_base.specs.declared.cause.Cause.TheVariants.{End, Malformed, Limit, SourceFault}
+use Rattle.kv_base.specs.declared.cause.Cause.TheVariants.{SinkFault}
 use Rattle.kv_base.specs.Fault.{Rose}
 use Rattle.kv_base.specs.Image.{with_page}
 use Rattle.kv_base.specs.Stream.{Passes, IsSpent, Takes}
@@ -17,16 +19,19 @@ use Rattle.kv_serve.specs.declared.ending.Ending.{Ending}
 use Rattle.kv_serve.specs.declared.open.OpenFault.{OpenFault}
 use Rattle.kv_serve.specs.declared.open.OpenFault.TheVariants.{NotAStore, DiskFault}
 use Rattle.kv_serve.specs.declared.ended.Refused.{Refused}
-use Rattle.kv_serve.specs.declared.ended.Refused.TheVariants.{Disk, TakeDisk, TakeSession, TakeReport}
+use Rattle.kv_serve.specs.declared.ended.Refused.TheVariants.{Disk, TakeDisk, TakeSession}
+use Rattle.kv_serve.specs.declared.ended.Refused.TheVariants.{TakeReport}
 use Rattle.kv_serve.specs.declared.ended.Ended.{Ended}
 use Rattle.kv_serve.specs.Causes.{any_unsure}
 use Rattle.kv_serve.specs.Open.{IsBlank, IsUsed}
 use Rattle.kv_serve.specs.Run.{Streams, pairs_of}
 use Rattle.kv_serve.specs.Answers.{HasAnswers}
 
--- a session with its store, from its first byte to its end: what it took, handled, gave and left, that the replies are
--- those of one plain map, and the cause of each refusal and of its end; unsure tells whether a write may be on disk or not
-pub record Serves {D So Si : Type 0} (d : Ghosts D) (streams : Streams So Si) (disk disk' : D) (source source' : So) (sink sink' : Si) (ending : Ending) (unsure : Bool) : Type 0 where
+-- a session with its store, from its first byte to its end: what it took, handled, gave and left,
+-- that the replies are those of one plain map, and the cause of each refusal and of its end; unsure
+-- tells whether a write may be on disk or not
+pub record Serves {D So Si : Type 0} (d : Ghosts D) (streams : Streams So Si) (disk disk' : D)
+    (source source' : So) (sink sink' : Si) (ending : Ending) (unsure : Bool) : Type 0 where
   pub bytes : List ℕ
   pub ended : Bool
   pub given : List ℕ
@@ -36,11 +41,14 @@ pub record Serves {D So Si : Type 0} (d : Ghosts D) (streams : Streams So Si) (d
   pub took : Takes (streams.held sink) (streams.held sink') given
   pub counted : ending.taken ≡ length bytes
   pub spent : ended ≡ true → IsSpent (streams.stream source')
-  pub transcript : HasTranscript bytes ended given ending.undelivered.items ending.cause handled replies
+  pub transcript : HasTranscript bytes ended given ending.undelivered.items ending.cause handled
+      replies
   pub answers : HasAnswers d disk disk' (pairs_of handled replies)
   pub unsure_is : unsure ≡ any_unsure (pairs_of handled replies)
-  pub source_rose : ending.cause ≡ SourceFault → Rose (streams.source_faults source) (streams.source_faults source')
-  pub sink_rose : ending.cause ≡ SinkFault → Rose (streams.sink_faults sink) (streams.sink_faults sink')
+  pub source_rose : ending.cause ≡ SourceFault
+      → Rose (streams.source_faults source) (streams.source_faults source')
+  pub sink_rose : ending.cause ≡ SinkFault
+      → Rose (streams.sink_faults sink) (streams.sink_faults sink')
 
 -- the cause is End
 abbrev pub is_end : Cause → Bool
@@ -60,42 +68,52 @@ SessionsKept before after = (n : ℕ) → after.sessions n ≡ before.sessions n
 
 -- the disks are held as before
 abbrev pub DisksKept : {In Out Pages : Type 0} → Held In Out Pages → Held In Out Pages → Type 0
-DisksKept before after = (folder : List ℕ) (worker : ℕ) → after.disks folder worker ≡ before.disks folder worker
+DisksKept before after = (folder : List ℕ) (worker : ℕ)
+    → after.disks folder worker ≡ before.disks folder worker
 
--- the disk of worker 0 in the folder was taken and given back, and all other disks are held as before
-pub record ReturnsDisk {In Out Pages : Type 0} (before after : Held In Out Pages) (folder : List ℕ) (disk disk' : Pages) : Type 0 where
+-- the disk of worker 0 in the folder was taken and given back, and all other disks are held as
+-- before
+pub record ReturnsDisk {In Out Pages : Type 0} (before after : Held In Out Pages) (folder : List ℕ)
+    (disk disk' : Pages) : Type 0 where
   pub was : before.disks folder 0 ≡ Some disk
   pub back : after.disks folder 0 ≡ Some disk'
-  pub others : (other : List ℕ) (worker : ℕ) → (other ≡ folder → worker ≡ 0 → ⊥) → after.disks other worker ≡ before.disks other worker
+  pub others : (other : List ℕ) (worker : ℕ) → (other ≡ folder → worker ≡ 0 → ⊥)
+      → after.disks other worker ≡ before.disks other worker
 
 -- the ends of session 0 were taken and given back, and all other sessions are held as before
-pub record ReturnsSession {In Out Pages : Type 0} (before after : Held In Out Pages) (ends ends' : In × Out) : Type 0 where
+pub record ReturnsSession {In Out Pages : Type 0} (before after : Held In Out Pages)
+    (ends ends' : In × Out) : Type 0 where
   pub was : before.sessions 0 ≡ Some ends
   pub back : after.sessions 0 ≡ Some ends'
   pub others : (n : ℕ) → n ≢ 0 → after.sessions n ≡ before.sessions n
 
 -- the disk came back, and all else is held as before
-pub record BringsDisk {In Out Pages : Type 0} (before after : Held In Out Pages) (folder : List ℕ) (disk disk' : Pages) : Type 0 where
+pub record BringsDisk {In Out Pages : Type 0} (before after : Held In Out Pages) (folder : List ℕ)
+    (disk disk' : Pages) : Type 0 where
   pub disks : ReturnsDisk before after folder disk disk'
   pub sessions : SessionsKept before after
   pub report : after.report ≡ before.report
 
 -- the disk and the ends of the session came back, and all else is held as before
-pub record BringsBoth {In Out Pages : Type 0} (before after : Held In Out Pages) (folder : List ℕ) (disk disk' : Pages) (ends ends' : In × Out) : Type 0 where
+pub record BringsBoth {In Out Pages : Type 0} (before after : Held In Out Pages) (folder : List ℕ)
+    (disk disk' : Pages) (ends ends' : In × Out) : Type 0 where
   pub disks : ReturnsDisk before after folder disk disk'
   pub sessions : ReturnsSession before after ends ends'
   pub report : after.report ≡ before.report
 
 -- the disk was new, and has its head page
 abbrev pub Opens : {D : Type 0} → Ghosts D → D → D → Type 0
-Opens d disk disk' = IsTrue d.tells → IsBlank (d.seen disk) × (d.seen disk' ≡ with_page (d.seen disk) 0 0 (head_page 0 1))
+Opens d disk disk' = IsTrue d.tells → IsBlank (d.seen disk)
+    × (d.seen disk' ≡ with_page (d.seen disk) 0 0 (head_page 0 1))
 
 -- why the disk wasn't opened
 abbrev pub OpenFails : {D : Type 0} → Ghosts D → D → D → OpenFault → Type 0
-OpenFails d disk disk' NotAStore = IsTrue d.tells → IsUsed (d.seen disk) × (d.seen disk' ≡ d.seen disk)
+OpenFails d disk disk' NotAStore = IsTrue d.tells → IsUsed (d.seen disk)
+    × (d.seen disk' ≡ d.seen disk)
 OpenFails d disk disk' DiskFault = Rose (d.faults disk) (d.faults disk')
 
--- what a site tells, but for its disks: its streams, and what it holds and how often it failed before and after
+-- what a site tells, but for its disks: its streams, and what it holds and how often it failed
+-- before and after
 pub record Outside (In Out Pages : Type 0) : Type 0 where
   pub streams : Streams In Out
   pub tells : Bool
@@ -105,15 +123,25 @@ pub record Outside (In Out Pages : Type 0) : Type 0 where
   pub faults' : ℕ
 
 -- why nothing was served: the status, and what shows the cause
-abbrev pub Refuses : {In Out Pages : Type 0} → Ghosts Pages → Outside In Out Pages → List ℕ → ℕ → Option Refused → Type 0
-Refuses {Pages = Pages} d o folder status None = (status ≡ 4) × ((IsTrue o.tells → DisksKept o.before o.after) ⊎ ((disk : Pages) × (disk' : Pages) × (IsTrue o.tells → ReturnsDisk o.before o.after folder disk disk') × Opens d disk disk'))
-Refuses {Pages = Pages} d o folder status (Some (Disk worker fault)) = (status ≡ 3) × (worker ≡ 0) × (disk : Pages) × (disk' : Pages) × (IsTrue o.tells → ReturnsDisk o.before o.after folder disk disk') × OpenFails d disk disk' fault
-Refuses {Pages = Pages} d o folder status (Some (TakeDisk worker)) = (status ≡ 3) × (worker ≡ 0) × (IsTrue o.tells → DisksKept o.before o.after) × Rose o.faults o.faults'
-Refuses {Pages = Pages} d o folder status (Some (TakeSession session)) = (status ≡ 3) × (session ≡ 0) × (disk : Pages) × (disk' : Pages) × (IsTrue o.tells → ReturnsDisk o.before o.after folder disk disk') × Opens d disk disk' × Rose o.faults o.faults'
+abbrev pub Refuses : {In Out Pages : Type 0} → Ghosts Pages → Outside In Out Pages → List ℕ → ℕ
+    → Option Refused → Type 0
+Refuses {Pages = Pages} d o folder status None = (status ≡ 4)
+    × ((IsTrue o.tells → DisksKept o.before o.after) ⊎ ((disk : Pages) × (disk' : Pages)
+    × (IsTrue o.tells → ReturnsDisk o.before o.after folder disk disk') × Opens d disk disk'))
+Refuses {Pages = Pages} d o folder status (Some (Disk worker fault)) = (status ≡ 3) × (worker ≡ 0)
+    × (disk : Pages) × (disk' : Pages) × (IsTrue o.tells
+    → ReturnsDisk o.before o.after folder disk disk') × OpenFails d disk disk' fault
+Refuses {Pages = Pages} d o folder status (Some (TakeDisk worker)) = (status ≡ 3) × (worker ≡ 0)
+    × (IsTrue o.tells → DisksKept o.before o.after) × Rose o.faults o.faults'
+Refuses {Pages = Pages} d o folder status (Some (TakeSession session)) = (status ≡ 3)
+    × (session ≡ 0) × (disk : Pages) × (disk' : Pages) × (IsTrue o.tells
+    → ReturnsDisk o.before o.after folder disk disk') × Opens d disk disk' × Rose o.faults o.faults'
 Refuses {Pages = Pages} d o folder status (Some TakeReport) = ⊥
 
--- a session was served over a new disk: both were taken and given back, and the status is that of its end
-pub record IsServed {In Out Pages : Type 0} (d : Ghosts Pages) (o : Outside In Out Pages) (folder : List ℕ) (status : ℕ) (ending : Ending) : Type 0 where
+-- a session was served over a new disk: both were taken and given back, and the status is that of
+-- its end
+pub record IsServed {In Out Pages : Type 0} (d : Ghosts Pages) (o : Outside In Out Pages)
+    (folder : List ℕ) (status : ℕ) (ending : Ending) : Type 0 where
   pub disk : Pages
   pub disk' : Pages
   pub ends : In × Out
@@ -125,14 +153,19 @@ pub record IsServed {In Out Pages : Type 0} (d : Ghosts Pages) (o : Outside In O
   pub serves : Serves d o.streams disk disk' ends.0 ends'.0 ends.1 ends'.1 ending unsure
   pub status_is : status ≡ served_status ending.cause unsure
 
--- what the command did, by its endings: none where nothing was served, and then all sessions are held as before
-abbrev pub EndsWith : {In Out Pages : Type 0} → Ghosts Pages → Outside In Out Pages → List ℕ → ℕ → Option Refused → List Ending → Type 0
-EndsWith d o folder status refused [] = (IsTrue o.tells → SessionsKept o.before o.after) × Refuses d o folder status refused
-EndsWith d o folder status refused (ending ∷ []) = (refused ≡ None) × IsServed d o folder status ending
+-- what the command did, by its endings: none where nothing was served, and then all sessions are
+-- held as before
+abbrev pub EndsWith : {In Out Pages : Type 0} → Ghosts Pages → Outside In Out Pages → List ℕ → ℕ
+    → Option Refused → List Ending → Type 0
+EndsWith d o folder status refused [] = (IsTrue o.tells → SessionsKept o.before o.after)
+    × Refuses d o folder status refused
+EndsWith d o folder status refused (ending ∷ []) = (refused ≡ None)
+    × IsServed d o folder status ending
 EndsWith d o folder status refused (ending ∷ other ∷ endings) = ⊥
 
 -- what the command `serve` did; the report's sink is held as before
-pub record IsDone {In Out Pages : Type 0} (d : Ghosts Pages) (o : Outside In Out Pages) (folder : List ℕ) (ended : Ended) : Type 0 where
+pub record IsDone {In Out Pages : Type 0} (d : Ghosts Pages) (o : Outside In Out Pages)
+    (folder : List ℕ) (ended : Ended) : Type 0 where
   pub ends : EndsWith d o folder ended.status ended.refused ended.endings.items
   pub report : IsTrue o.tells → o.after.report ≡ o.before.report
 

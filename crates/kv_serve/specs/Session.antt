@@ -1,9 +1,11 @@
 -- A session's bytes between its source and its sink.
-use Rattle.std.specs.Prelude.{◌≡◌, ℕ, ◌+◌, ◌^◌, ◌<◌, ◌≤◌, List, [], ◌++◌, length, Option, Bool, true, false}
+use Rattle.std.specs.Prelude.{◌≡◌, ℕ, ◌+◌, ◌^◌, ◌<◌, ◌≤◌, List, [], ◌++◌, length, Option, Bool}
+use Rattle.std.specs.Prelude.{true, false}
 use Rattle.kv_base.specs.declared.request.Request.{Request}
 use Rattle.kv_base.specs.Fault.{Rose}
 use Rattle.kv_base.specs.Stream.{Stream, Passes, Takes}
-use Rattle.kv_model.specs.Frames.{BeginsWithRequest, BeginsWithNoRequest, IsPartial, IsMalformed, IsBad}
+use Rattle.kv_model.specs.Frames.{BeginsWithRequest, BeginsWithNoRequest, IsPartial, IsMalformed}
+use Rattle.kv_model.specs.Frames.{IsBad}
 use Rattle.kv_serve.specs.declared.fill.Ready.{Ready}
 use Rattle.kv_serve.specs.declared.fill.Ready.TheVariants as ready
 
@@ -23,12 +25,12 @@ pub record IsNew {So Si : Type 0} (session : SessionState So Si) : Type 0 where
   pub goes_on : session.ended ≡ false
 
 -- bytes passed from the source and stand behind those that waited, and they are counted
-pub record Arrives (before now : Option Stream) (waiting after : List ℕ) (count total : ℕ) : Type 0
-  where
-    pub bytes : List ℕ
-    pub passed : Passes before now bytes
-    pub behind : after ≡ waiting ++ bytes
-    pub counted : total ≡ count + length bytes
+pub record Arrives (before now : Option Stream) (waiting after : List ℕ)
+    (count total : ℕ) : Type 0 where
+  pub bytes : List ℕ
+  pub passed : Passes before now bytes
+  pub behind : after ≡ waiting ++ bytes
+  pub counted : total ≡ count + length bytes
 
 -- a request's frame begins the bytes
 pub record HasRequest (waiting : List ℕ) : Type 0 where

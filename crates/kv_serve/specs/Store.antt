@@ -1,12 +1,15 @@
 -- The plain store: one page for each key, in class 7.
-use Rattle.std.specs.Prelude.{◌≡◌, ℕ, ◌+◌, ◌<◌, ◌≤◌, ◌↔◌, ◌||◌, List, ◌++◌, Option, None, Some, Bool, true, false, IsTrue, IfSome, ⊤}
+use Rattle.std.specs.Prelude.{◌≡◌, ℕ, ◌+◌, ◌<◌, ◌≤◌, ◌↔◌, ◌||◌, List, ◌++◌, Option, None, Some}
+use Rattle.std.specs.Prelude.{Bool, true, false, IsTrue, IfSome, ⊤}
 use Rattle.std.specs.List.{AllByRecursion}
 use Rattle.std.specs.Option.{option_to_list}
 use Rattle.kv_base.specs.Image.{Image}
 use Rattle.kv_base.specs.Calls.{next_count}
 use Rattle.kv_base.specs.declared.request.Request.{Request}
 use Rattle.kv_base.specs.declared.reply.Reply.{Reply}
-use Rattle.kv_base.specs.declared.reply.Reply.TheVariants.{Stored, Found, Missing, BadKey, TooLarge, Full, NoMemory, DiskFault, Unsure, Closed, Malformed}
+use Rattle.kv_base.specs.declared.reply.Reply.TheVariants.{Stored, Found, Missing, BadKey, TooLarge}
+use Rattle.kv_base.specs.declared.reply.Reply.TheVariants.{Full, NoMemory, DiskFault, Unsure}
+use Rattle.kv_base.specs.declared.reply.Reply.TheVariants.{Closed, Malformed}
 use Rattle.kv_model.specs.History.{Write, value_at}
 use Rattle.kv_model.specs.Layout.{only_class}
 use Rattle.kv_model.specs.Pairs.{acknowledged_by, stamp_of}
@@ -24,10 +27,12 @@ Keeps told image (Some page) key None = ⊥
 Keeps told image (Some page) key (Some value) = IsTrue told → ReadsAs (image 7 page) key value
 
 -- the store has what the history gives each key now and later, as long as it isn't closed
-pub record Holds {D : Type 0} {d : Ghosts D} (store : Store D d) (history : List Write) : Type 0 where
+pub record Holds {D : Type 0} {d : Ghosts D} (store : Store D d)
+    (history : List Write) : Type 0 where
   pub below : AllByRecursion (λ write. write.stamp < store.next) history
   pub kept : store.closed ≡ false → (key : List ℕ) (stamp : ℕ) → store.next ≤ stamp + 1
-      → Keeps d.tells (d.seen store.disk) (place_of store.pages key) key (value_at history stamp key)
+      → Keeps d.tells (d.seen store.disk) (place_of store.pages key) key
+      (value_at history stamp key)
 
 -- the device calls that the reply took
 abbrev pub TakesCalls : Reply → ℕ → ℕ → Type 0
@@ -44,10 +49,13 @@ TakesCalls Closed before now = now ≡ before
 TakesCalls (Malformed offset) before now = ⊥
 
 -- one request and its reply lead from one store to another
-pub record Steps {D : Type 0} {d : Ghosts D} (old : Store D d) (request : Request) (reply : Reply) (new : Store D d) : Type 0 where
-  pub answers : (history : List Write) → Holds old history → IsAnswer d.tells (only_class 7) history request reply
-  pub holds : (history : List Write) → Holds old history → Holds new (history ++ option_to_list (acknowledged_by request reply))
-  pub full : (history : List Write) → Holds old history → IsFullAtLimit history reply
+pub record Steps {D : Type 0} {d : Ghosts D} (old : Store D d) (request : Request) (reply : Reply)
+    (new : Store D d) : Type 0 where
+  pub answers : (history : List Write) → Holds old history
+      → IsAnswer d.tells (only_class 7) history request reply
+  pub holds : (history : List Write) → Holds old history
+      → Holds new (history ++ option_to_list (acknowledged_by request reply))
+  pub full : (history : List Write) → Holds old history → IsFullAtLimit history request reply
   pub stamped : IfSome (stamp_of reply) (λ stamp. (old.next ≤ stamp) × (stamp < new.next))
   pub later : old.next ≤ new.next
   pub closes : (reply ≡ Closed) ↔ ((old.closed ≡ true) × (refusal_of (only_class 7) request ≡ None))

@@ -28,8 +28,9 @@ pub enum Refused {
 /// How a command ended.
 #[derive(Debug, Drop)]
 pub struct Ended {
-    /// 0 where all went well, 1 where a session didn't end with `End` or a write is unsure, 2 where the words are none of
-    /// a command, 3 where something was refused, 4 where memory ran out before serving.
+    /// 0 where all went well, 1 where a session didn't end with `End` or a write is unsure, 2 where
+    /// the words are none of a command, 3 where something was refused, 4 where memory ran out
+    /// before serving.
     pub status: u8,
     /// How the sessions ended, where they were served.
     pub endings: Endings,

@@ -1,4 +1,5 @@
-ghost use Rattle.std.specs.Prelude.{◌≡◌, ℕ, ◌+◌, ◌-◌, ◌^◌, ◌<◌, ◌≤◌, List, length, take, IsTrue, OnOk};
+ghost use Rattle.std.specs.Prelude.{◌≡◌, ℕ, ◌+◌, ◌-◌, ◌^◌, ◌<◌, ◌≤◌, List, length, take, IsTrue};
+ghost use Rattle.std.specs.Prelude.{OnOk};
 ghost use Rattle.kv_base.specs.Calls.{next_count};
 ghost use Rattle.kv_base.specs.Fault.{HasCause};
 ghost use Rattle.kv_base.specs.Image.{with_page};
@@ -25,7 +26,9 @@ pub fn write_item<D: Disk>(
     requires page { page < 2 ^ 32 - 1 }
     requires key { (1 ≤ length key.now) × (length key.now ≤ 255) }
     requires fits { length key.now + length value.now ≤ 4080 }
-    ensures written { IsTrue D.tells → OnOk result (D.seen disk.new ≡ with_page (D.seen disk.old) 7 page (item_bytes 7 stamp key.now value.now)) }
+    ensures written { IsTrue D.tells
+        → OnOk result (D.seen disk.new ≡ with_page (D.seen disk.old) 7 page
+        (item_bytes 7 stamp key.now value.now)) }
     ensures durable { OnOk result (Only (D.seen disk.new) (D.leaves disk.new (D.calls disk.new))) }
     ensures calls { OnOk result (D.calls disk.new ≡ next_count (next_count (D.calls disk.old))) }
     ensures cause { HasCause (D.faults disk.old) (D.faults disk.new) result }

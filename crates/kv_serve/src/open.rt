@@ -27,14 +27,19 @@ impl From<Failed> for OpenFault {
     }
 }
 
-/// Makes a new store on the disk: its pages have to be zero, and then the head page is written and synced.
+/// Makes a new store on the disk: its pages have to be zero, and then the head page is written and
+/// synced.
 pub fn make_store<D: Disk>(disk: &mut D) -> Result<(), OpenFault>
     ensures blank { IsTrue D.tells → OnOk result (IsBlank (D.seen disk.old)) }
-    ensures head { IsTrue D.tells → OnOk result (D.seen disk.new ≡ with_page (D.seen disk.old) 0 0 (head_page 0 1)) }
-    ensures not_a_store { IsTrue D.tells → result ≡ Err OpenFault.NotAStore → IsUsed (D.seen disk.old) }
-    ensures kept { IsTrue D.tells → result ≡ Err OpenFault.NotAStore → D.seen disk.new ≡ D.seen disk.old }
+    ensures head { IsTrue D.tells
+        → OnOk result (D.seen disk.new ≡ with_page (D.seen disk.old) 0 0 (head_page 0 1)) }
+    ensures not_a_store { IsTrue D.tells → result ≡ Err OpenFault.NotAStore
+        → IsUsed (D.seen disk.old) }
+    ensures kept { IsTrue D.tells → result ≡ Err OpenFault.NotAStore
+        → D.seen disk.new ≡ D.seen disk.old }
     ensures later { D.faults disk.old ≤ D.faults disk.new }
-    ensures disk_fault { result ≡ Err OpenFault.DiskFault → Rose (D.faults disk.old) (D.faults disk.new) }
+    ensures disk_fault { result ≡ Err OpenFault.DiskFault
+        → Rose (D.faults disk.old) (D.faults disk.new) }
 {
     for file in 0..12 {
         check_file(disk, file)?;
@@ -46,11 +51,14 @@ pub fn make_store<D: Disk>(disk: &mut D) -> Result<(), OpenFault>
 /// Reads a file up to its length.
 fn check_file<D: Disk>(disk: &mut D, file: u8) -> Result<(), OpenFault>
     requires { file ≤ 11 }
-    ensures blank { IsTrue D.tells → OnOk result ((page : ℕ) → D.seen disk.old file page ≡ zero_page) }
-    ensures not_a_store { IsTrue D.tells → result ≡ Err OpenFault.NotAStore → IsUsed (D.seen disk.old) }
+    ensures blank { IsTrue D.tells → OnOk result ((page : ℕ)
+        → D.seen disk.old file page ≡ zero_page) }
+    ensures not_a_store { IsTrue D.tells → result ≡ Err OpenFault.NotAStore
+        → IsUsed (D.seen disk.old) }
     ensures kept { IsTrue D.tells → D.seen disk.new ≡ D.seen disk.old }
     ensures later { D.faults disk.old ≤ D.faults disk.new }
-    ensures disk_fault { result ≡ Err OpenFault.DiskFault → Rose (D.faults disk.old) (D.faults disk.new) }
+    ensures disk_fault { result ≡ Err OpenFault.DiskFault
+        → Rose (D.faults disk.old) (D.faults disk.new) }
 {
     let pages = disk.length(file)?;
     for page in 0..pages {
@@ -64,10 +72,12 @@ fn check_page<D: Disk>(disk: &mut D, file: u8, page: u32) -> Result<(), OpenFaul
     requires file { file ≤ 11 }
     requires page { page < 2 ^ 32 - 1 }
     ensures blank { IsTrue D.tells → OnOk result (D.seen disk.old file page ≡ zero_page) }
-    ensures not_a_store { IsTrue D.tells → result ≡ Err OpenFault.NotAStore → IsUsed (D.seen disk.old) }
+    ensures not_a_store { IsTrue D.tells → result ≡ Err OpenFault.NotAStore
+        → IsUsed (D.seen disk.old) }
     ensures kept { IsTrue D.tells → D.seen disk.new ≡ D.seen disk.old }
     ensures later { D.faults disk.old ≤ D.faults disk.new }
-    ensures disk_fault { result ≡ Err OpenFault.DiskFault → Rose (D.faults disk.old) (D.faults disk.new) }
+    ensures disk_fault { result ≡ Err OpenFault.DiskFault
+        → Rose (D.faults disk.old) (D.faults disk.new) }
 {
     let mut content = [0; 4096];
     disk.read(file, page, &mut content)?;
@@ -87,7 +97,8 @@ fn is_blank(content: &[u8; 4096]) -> bool
 
 /// Writes the head page and makes it durable.
 fn write_head<D: Disk>(disk: &mut D) -> Result<(), Failed>
-    ensures head { IsTrue D.tells → OnOk result (D.seen disk.new ≡ with_page (D.seen disk.old) 0 0 (head_page 0 1)) }
+    ensures head { IsTrue D.tells
+        → OnOk result (D.seen disk.new ≡ with_page (D.seen disk.old) 0 0 (head_page 0 1)) }
     ensures cause { HasCause (D.faults disk.old) (D.faults disk.new) result }
 {
     let mut content = [0; 4096];

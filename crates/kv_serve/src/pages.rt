@@ -13,7 +13,8 @@ pub fn find_page(pages: &BTreeMap<Vec<u8>, u32>, key: &[u8]) -> Option<u32>
     pages.get(key).copied()
 }
 
-/// Gives a key that has no page this one. The one error is want of memory, and then all is as before.
+/// Gives a key that has no page this one. The one error is want of memory, and then all is as
+/// before.
 pub fn add_page(
     alloc: Global,
     pages: &mut BTreeMap<Vec<u8>, u32>,

@@ -18,7 +18,8 @@ pub enum Unplaced {
     NoMemory,
 }
 
-/// The page for an item of the key: the one it has, or a new one behind all others. After `Err` all is as before.
+/// The page for an item of the key: the one it has, or a new one behind all others. After `Err` all
+/// is as before.
 pub fn page_for(
     alloc: Global,
     pages: &mut BTreeMap<Vec<u8>, u32>,
@@ -26,8 +27,10 @@ pub fn page_for(
 ) -> Result<u32, Unplaced>
     requires { IsPlaced pages.old }
     ensures ok { IfOk result (GivesPage pages.old pages.new key.now) }
-    ensures full { result ≡ Err Unplaced.Full → (place_of pages.old key.now ≡ None) × HasPlaces pages.old 1048576 }
-    ensures room { IfOk result (λ page. place_of pages.old key.now ≡ None → btree_map_len pages.old < 1048576) }
+    ensures full { result ≡ Err Unplaced.Full → (place_of pages.old key.now ≡ None)
+        × HasPlaces pages.old 1048576 }
+    ensures room { IfOk result (λ page. place_of pages.old key.now ≡ None
+        → btree_map_len pages.old < 1048576) }
     ensures err { OnErr result (pages.new.entries ≡ pages.old.entries) }
     ensures placed { IsPlaced pages.new }
 {

@@ -20,7 +20,8 @@ impl<D: Disk> Store<D> {
         ensures step { Steps self.old (Put key.now value.now) result self.new }
         ensures frame { HasReplyFrame result }
         // what is acknowledged is on disk: a crash leaves just what is read
-        ensures durable { (stamp : ℕ) → result ≡ Reply.Stored stamp → Only (D.seen self.new.disk) (D.leaves self.new.disk (D.calls self.new.disk)) }
+        ensures durable { (stamp : ℕ) → result ≡ Reply.Stored stamp
+            → Only (D.seen self.new.disk) (D.leaves self.new.disk (D.calls self.new.disk)) }
         ensures next { self.new.next ≤ self.old.next + 1 }
     {
         if !is_key(key) {

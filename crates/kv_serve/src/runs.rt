@@ -1,4 +1,5 @@
-ghost use Rattle.std.specs.Prelude.{◌≡◌, ◌≢◌, ℕ, ◌+◌, ◌^◌, ◌<◌, ◌≤◌, [], ◌∷◌, ◌++◌, true, IfOk, MatchResult, option_to_list};
+ghost use Rattle.std.specs.Prelude.{◌≡◌, ◌≢◌, ℕ, ◌+◌, ◌^◌, ◌<◌, ◌≤◌, [], ◌∷◌, ◌++◌, true, IfOk};
+ghost use Rattle.std.specs.Prelude.{MatchResult, option_to_list};
 ghost use Rattle.kv_base.specs.Fault.{HasCause, Rose};
 ghost use Rattle.kv_base.specs.Stream.{IsSpent};
 ghost use Rattle.kv_serve.specs.Session.{IsNew, HasRequest, IsReady, IsStuck};
@@ -14,8 +15,8 @@ use kv_base::{Cause, Replies, Reply, Sink, Source};
 /// reply goes out, before the next one is looked at. `undelivered` is empty and has room for one
 /// reply. Takes no memory.
 ///
-/// After `Malformed` the reply that says so goes out last. After `SinkFault` nothing more is read or
-/// written, and the reply that the sink didn't take whole stands in `undelivered`.
+/// After `Malformed` the reply that says so goes out last. After `SinkFault` nothing more is read
+/// or written, and the reply that the sink didn't take whole stands in `undelivered`.
 pub fn run<W: Worker, So: Source, Si: Sink>(
     worker: &mut W,
     mut session: Session<So, Si>,
@@ -59,7 +60,8 @@ fn keep(undelivered: &mut Replies, unsent: Option<Reply>)
     }
 }
 
-/// Runs a session to its end. It answers why it ended, and the reply that the sink didn't take whole.
+/// Runs a session to its end. It answers why it ended, and the reply that the sink didn't take
+/// whole.
 fn run_to_end<W: Worker, So: Source, Si: Sink>(
     worker: &mut W,
     session: &mut Session<So, Si>,

@@ -33,7 +33,14 @@ pub fn serve_one<D: Disk, So: Source, Si: Sink>(
     requires new { IsNew session }
     requires empty { undelivered.items ≡ [] }
     requires spare { 0 < undelivered.spare }
-    ensures { let streams : Streams So Si = record { stream = So.stream; source_faults = So.faults; held = Si.held; sink_faults = Si.faults } in Serves ⟦<D as Disk>⟧ streams store.disk result.disk session.source result.source session.sink result.sink result.ending result.unsure }
+    ensures { let streams : Streams So Si = record {
+      stream = So.stream;
+      source_faults = So.faults;
+      held = Si.held;
+      sink_faults = Si.faults;
+    } in
+        Serves ⟦<D as Disk>⟧ streams store.disk result.disk session.source result.source
+        session.sink result.sink result.ending result.unsure }
 {
     let finished = run(&mut store, session, undelivered);
     let Finished {

@@ -28,8 +28,22 @@ pub fn serve_disk<S: Site>(
     requires room { 0 < endings.spare }
     requires empty { undelivered.items ≡ [] }
     requires spare { 0 < undelivered.spare }
-    ensures { (before : Held S.In S.Out S.Pages) (folder : List ℕ) (n : ℕ) → (IsTrue S.tells → TakesDisk before (S.holds site.old) folder 0 disk) → n ≤ S.faults site.old →
-        let o : Outside S.In S.Out S.Pages = record { streams = record { stream = ⟦<S::In as Source>⟧.stream; source_faults = ⟦<S::In as Source>⟧.faults; held = ⟦<S::Out as Sink>⟧.held; sink_faults = ⟦<S::Out as Sink>⟧.faults }; tells = S.tells; before = before; after = S.holds site.new; faults = n; faults' = S.faults site.new } in
+    ensures { (before : Held S.In S.Out S.Pages) (folder : List ℕ) (n : ℕ)
+        → (IsTrue S.tells → TakesDisk before (S.holds site.old) folder 0 disk)
+        → n ≤ S.faults site.old →
+        let o : Outside S.In S.Out S.Pages = record {
+          streams = record {
+            stream = ⟦<S::In as Source>⟧.stream;
+            source_faults = ⟦<S::In as Source>⟧.faults;
+            held = ⟦<S::Out as Sink>⟧.held;
+            sink_faults = ⟦<S::Out as Sink>⟧.faults;
+          };
+          tells = S.tells;
+          before = before;
+          after = S.holds site.new;
+          faults = n;
+          faults' = S.faults site.new;
+        } in
         IsDone ⟦<S::Pages as Disk>⟧ o folder result }
 {
     match make_store(&mut disk) {
@@ -60,8 +74,24 @@ fn serve_store<S: Site>(
     requires room { 0 < endings.spare }
     requires empty { undelivered.items ≡ [] }
     requires spare { 0 < undelivered.spare }
-    ensures { (before : Held S.In S.Out S.Pages) (folder : List ℕ) (n : ℕ) (taken : S.Pages) → (IsTrue S.tells → TakesDisk before (S.holds site.old) folder 0 taken) → Opens ⟦<S::Pages as Disk>⟧ taken store.disk → ⟦<S::Pages as Disk>⟧.faults taken ≤ ⟦<S::Pages as Disk>⟧.faults store.disk → n ≤ S.faults site.old →
-        let o : Outside S.In S.Out S.Pages = record { streams = record { stream = ⟦<S::In as Source>⟧.stream; source_faults = ⟦<S::In as Source>⟧.faults; held = ⟦<S::Out as Sink>⟧.held; sink_faults = ⟦<S::Out as Sink>⟧.faults }; tells = S.tells; before = before; after = S.holds site.new; faults = n; faults' = S.faults site.new } in
+    ensures { (before : Held S.In S.Out S.Pages) (folder : List ℕ) (n : ℕ) (taken : S.Pages)
+        → (IsTrue S.tells → TakesDisk before (S.holds site.old) folder 0 taken)
+        → Opens ⟦<S::Pages as Disk>⟧ taken store.disk
+        → ⟦<S::Pages as Disk>⟧.faults taken ≤ ⟦<S::Pages as Disk>⟧.faults store.disk
+        → n ≤ S.faults site.old →
+        let o : Outside S.In S.Out S.Pages = record {
+          streams = record {
+            stream = ⟦<S::In as Source>⟧.stream;
+            source_faults = ⟦<S::In as Source>⟧.faults;
+            held = ⟦<S::Out as Sink>⟧.held;
+            sink_faults = ⟦<S::Out as Sink>⟧.faults;
+          };
+          tells = S.tells;
+          before = before;
+          after = S.holds site.new;
+          faults = n;
+          faults' = S.faults site.new;
+        } in
         IsDone ⟦<S::Pages as Disk>⟧ o folder result }
 {
     match site.take_session(0, "-", "-") {
@@ -112,8 +142,24 @@ fn serve_session<S: Site>(
     requires room { 0 < endings.spare }
     requires empty { undelivered.items ≡ [] }
     requires spare { 0 < undelivered.spare }
-    ensures { (before between : Held S.In S.Out S.Pages) (folder : List ℕ) (n : ℕ) (taken : S.Pages) → (IsTrue S.tells → TakesDisk before between folder 0 taken) → (IsTrue S.tells → TakesSession between (S.holds site.old) 0 (source, sink)) → Opens ⟦<S::Pages as Disk>⟧ taken store.disk → ⟦<S::Pages as Disk>⟧.faults taken ≤ ⟦<S::Pages as Disk>⟧.faults store.disk →
-        let o : Outside S.In S.Out S.Pages = record { streams = record { stream = ⟦<S::In as Source>⟧.stream; source_faults = ⟦<S::In as Source>⟧.faults; held = ⟦<S::Out as Sink>⟧.held; sink_faults = ⟦<S::Out as Sink>⟧.faults }; tells = S.tells; before = before; after = S.holds site.new; faults = n; faults' = S.faults site.new } in
+    ensures { (before between : Held S.In S.Out S.Pages) (folder : List ℕ) (n : ℕ) (taken : S.Pages)
+        → (IsTrue S.tells → TakesDisk before between folder 0 taken)
+        → (IsTrue S.tells → TakesSession between (S.holds site.old) 0 (source, sink))
+        → Opens ⟦<S::Pages as Disk>⟧ taken store.disk
+        → ⟦<S::Pages as Disk>⟧.faults taken ≤ ⟦<S::Pages as Disk>⟧.faults store.disk →
+        let o : Outside S.In S.Out S.Pages = record {
+          streams = record {
+            stream = ⟦<S::In as Source>⟧.stream;
+            source_faults = ⟦<S::In as Source>⟧.faults;
+            held = ⟦<S::Out as Sink>⟧.held;
+            sink_faults = ⟦<S::Out as Sink>⟧.faults;
+          };
+          tells = S.tells;
+          before = before;
+          after = S.holds site.new;
+          faults = n;
+          faults' = S.faults site.new;
+        } in
         IsDone ⟦<S::Pages as Disk>⟧ o folder result }
 {
     match Session::new(alloc, source, sink) {

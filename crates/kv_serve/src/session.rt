@@ -1,4 +1,5 @@
-ghost use Rattle.std.specs.Prelude.{◌≡◌, ◌<◌, ◌≤◌, ◌-◌, ◌+◌, ◌^◌, true, false, length, drop, IfOk, IfErr, OnOk, OnErr, MatchResult};
+ghost use Rattle.std.specs.Prelude.{◌≡◌, ◌<◌, ◌≤◌, ◌-◌, ◌+◌, ◌^◌, true, false, length, drop, IfOk};
+ghost use Rattle.std.specs.Prelude.{IfErr, OnOk, OnErr, MatchResult};
 ghost use Rattle.kv_base.specs.Fault.{HasCause};
 ghost use Rattle.kv_base.specs.Stream.{IsSpent, Takes};
 ghost use Rattle.kv_model.specs.Frames.{HasReplyFrame, reply_frame};
@@ -40,8 +41,7 @@ impl<So: Source, Si: Sink> Model for Session<So, Si> {
       source = s.source;
       sink = s.sink;
       waiting = s.window;
-      taken =
-          s.taken;
+      taken = s.taken;
       ended = s.ended;
     } };
 
@@ -142,9 +142,9 @@ impl<So: Source, Si: Sink> Session<So, Si> {
         }
     }
 
-    /// Writes the reply's frame: in one call of the sink, and more calls only for what a short write
-    /// left. Where the sink fails it hands the reply back, and the sink took a proper part of the
-    /// frame. Takes no memory.
+    /// Writes the reply's frame: in one call of the sink, and more calls only for what a short
+    /// write left. Where the sink fails it hands the reply back, and the sink took a proper part of
+    /// the frame. Takes no memory.
     pub fn deliver(&mut self, reply: Reply) -> Result<(), Reply>
         requires { HasReplyFrame reply }
         ensures ok { OnOk result (Takes (Si.held self.old.sink) (Si.held self.new.sink)

@@ -5,7 +5,8 @@ use kv_disk::Disk;
 use std::alloc::Global;
 use std::collections::BTreeMap;
 
-/// A plain store: each item has a page of its own in the file of class 7, and the keys are sorted in memory.
+/// A plain store: each item has a page of its own in the file of class 7, and the keys are sorted
+/// in memory.
 #[derive(Drop)]
 pub struct Store<D: Disk> {
     pub alloc: Global,

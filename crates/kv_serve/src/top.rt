@@ -11,12 +11,27 @@ use kv_disk::Disk;
 use kv_site::{Site, TakeFault};
 use std::alloc::Global;
 
-/// Carries out a command, whose words don't include the program's name: `serve DIR 1 - -`. All that it takes from the
-/// site it gives back.
+/// Carries out a command, whose words don't include the program's name: `serve DIR 1 - -`. All that
+/// it takes from the site it gives back.
 pub fn run_words<S: Site>(alloc: Global, words: &[String], site: &mut S) -> Ended
-    ensures usage { ((folder : List ℕ) → IsServe (map (λ word. string_bytes word) words.now) folder → ⊥) → (result.status ≡ 2) × (result.endings.items ≡ []) × (result.refused ≡ None) × (site.new ≡ site.old) }
-    ensures done { let o : Outside S.In S.Out S.Pages = record { streams = record { stream = ⟦<S::In as Source>⟧.stream; source_faults = ⟦<S::In as Source>⟧.faults; held = ⟦<S::Out as Sink>⟧.held; sink_faults = ⟦<S::Out as Sink>⟧.faults }; tells = S.tells; before = S.holds site.old; after = S.holds site.new; faults = S.faults site.old; faults' = S.faults site.new } in
-        (folder : List ℕ) → IsServe (map (λ word. string_bytes word) words.now) folder → IsDone ⟦<S::Pages as Disk>⟧ o folder result }
+    ensures usage { ((folder : List ℕ) → IsServe (map (λ word. string_bytes word) words.now) folder → ⊥)
+        → (result.status ≡ 2) × (result.endings.items ≡ []) × (result.refused ≡ None)
+        × (site.new ≡ site.old) }
+    ensures done { let o : Outside S.In S.Out S.Pages = record {
+      streams = record {
+        stream = ⟦<S::In as Source>⟧.stream;
+        source_faults = ⟦<S::In as Source>⟧.faults;
+        held = ⟦<S::Out as Sink>⟧.held;
+        sink_faults = ⟦<S::Out as Sink>⟧.faults;
+      };
+      tells = S.tells;
+      before = S.holds site.old;
+      after = S.holds site.new;
+      faults = S.faults site.old;
+      faults' = S.faults site.new;
+    } in
+        (folder : List ℕ) → IsServe (map (λ word. string_bytes word) words.now) folder
+        → IsDone ⟦<S::Pages as Disk>⟧ o folder result }
 {
     match served_folder(words) {
         Some(folder) => serve(alloc, folder, site),
@@ -26,7 +41,19 @@ pub fn run_words<S: Site>(alloc: Global, words: &[String], site: &mut S) -> Ende
 
 /// Serves a session over the disk of worker 0 in the folder.
 fn serve<S: Site>(alloc: Global, folder: &str, site: &mut S) -> Ended
-    ensures { let o : Outside S.In S.Out S.Pages = record { streams = record { stream = ⟦<S::In as Source>⟧.stream; source_faults = ⟦<S::In as Source>⟧.faults; held = ⟦<S::Out as Sink>⟧.held; sink_faults = ⟦<S::Out as Sink>⟧.faults }; tells = S.tells; before = S.holds site.old; after = S.holds site.new; faults = S.faults site.old; faults' = S.faults site.new } in
+    ensures { let o : Outside S.In S.Out S.Pages = record {
+      streams = record {
+        stream = ⟦<S::In as Source>⟧.stream;
+        source_faults = ⟦<S::In as Source>⟧.faults;
+        held = ⟦<S::Out as Sink>⟧.held;
+        sink_faults = ⟦<S::Out as Sink>⟧.faults;
+      };
+      tells = S.tells;
+      before = S.holds site.old;
+      after = S.holds site.new;
+      faults = S.faults site.old;
+      faults' = S.faults site.new;
+    } in
         IsDone ⟦<S::Pages as Disk>⟧ o folder.now result }
 {
     let Ok(endings) = Endings::with_room(alloc, 1) else {

@@ -1,4 +1,5 @@
-ghost use Rattle.std.specs.Prelude.{◌≡◌, ◌≤◌, ◌<◌, ◌-◌, [], Ok, length, take, drop, MatchResult, IfOk, vec_len};
+ghost use Rattle.std.specs.Prelude.{◌≡◌, ◌≤◌, ◌<◌, ◌-◌, [], Ok, length, take, drop, MatchResult};
+ghost use Rattle.std.specs.Prelude.{IfOk, vec_len};
 ghost use Rattle.kv_base.specs.Fault.{HasCause};
 ghost use Rattle.kv_base.specs.Stream.{IsSpent};
 ghost use Rattle.kv_serve.specs.Session.{Arrives};
@@ -83,8 +84,8 @@ impl Window {
     }
 }
 
-/// Moves the bytes to the front of the buffer where the room behind them is short, or where it takes
-/// nothing to move them.
+/// Moves the bytes to the front of the buffer where the room behind them is short, or where it
+/// takes nothing to move them.
 fn compact(buffer: &mut Vec<u8>, start: &mut usize, end: &mut usize)
     requires order { start.old ≤ end.old }
     requires within { end.old ≤ 132008 }

@@ -1,9 +1,12 @@
 ghost use Rattle.std.specs.Prelude.{◌≡◌, ℕ, List, map, string_bytes, MatchOption, IsTrue, ◌↔◌};
 ghost use Rattle.kv_serve.specs.Words.{IsServe, IsFolder};
 
-/// The folder, where the words are `serve DIR 1 - -`. DIR isn't empty, and begins with `-` only where it is `-`.
+/// The folder, where the words are `serve DIR 1 - -`. DIR isn't empty, and begins with `-` only
+/// where it is `-`.
 pub fn served_folder(words: &[String]) -> Option<&str>
-    ensures { MatchOption result ((folder : List ℕ) → IsServe (map (λ word. string_bytes word) words.now) folder → ⊥) (λ folder. IsServe (map (λ word. string_bytes word) words.now) folder.now) }
+    ensures { MatchOption result ((folder : List ℕ)
+        → IsServe (map (λ word. string_bytes word) words.now) folder
+        → ⊥) (λ folder. IsServe (map (λ word. string_bytes word) words.now) folder.now) }
 {
     match words {
         [command, folder, workers, input, output] => {

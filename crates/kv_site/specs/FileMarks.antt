@@ -2,7 +2,8 @@
 use Rattle.std.specs.Prelude.{◌≡◌, ◌⊎◌, ℕ, ◌<◌, Bool, true, false, List, replicate, Contains}
 use Rattle.kv_base.specs.Image.{Image, zero_page}
 
--- the files, by number, that the next sync covers, how many folders it covers then, and the counts of calls and faults
+-- the files, by number, that the next sync covers, how many folders it covers then, and the counts
+-- of calls and faults
 pub record FileMarks : Type 0 where
   pub unsynced : List Bool
   pub folders : ℕ

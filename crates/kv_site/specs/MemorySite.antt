@@ -1,5 +1,6 @@
 -- A site in memory, as its callers see it.
-use Rattle.std.specs.Prelude.{◌≡◌, ◌≢◌, ℕ, ◌⊎◌, ◌↔◌, Bool, List, [], Option, None, Some, Result, IsErr, IfErr, Contains, is_some, is_err, if◌then◌else◌}
+use Rattle.std.specs.Prelude.{◌≡◌, ◌≢◌, ℕ, ◌⊎◌, ◌↔◌, Bool, List, [], Option, None, Some, Result}
+use Rattle.std.specs.Prelude.{IsErr, IfErr, Contains, is_some, is_err, if◌then◌else◌}
 use Rattle.kv_base.specs.Calls.{next_count}
 use Rattle.kv_base.specs.Memory.{Feed, Tray}
 use Rattle.kv_disk.specs.Memory.{Tape}
@@ -8,8 +9,9 @@ use Rattle.kv_site.specs.declared.shelf.Shelf.{Shelf}
 use Rattle.kv_site.specs.Shelves.{thing_at, home_of}
 use Rattle.kv_site.specs.Held.{Held, SessionsStay, DisksStay, ReportStays}
 
--- the places of its sessions, which stand in the folder without a name, those of its disks, the report's sink and whether that
--- was ever taken, the numbers of the takes that fail, and the counts of takes and faults
+-- the places of its sessions, which stand in the folder without a name, those of its disks, the
+-- report's sink and whether that was ever taken, the numbers of the takes that fail, and the counts
+-- of takes and faults
 pub record Stock : Type 0 where
   pub sessions : List (Shelf (Feed × Tray))
   pub disks : List (Shelf Tape)
@@ -31,7 +33,8 @@ held_by stock = record {
 }
 
 -- a take fails exactly at a listed number and where what is wanted isn't held
-pub record Refuses {T W : Type 0} (old new : Stock) (wanted : Option W) (result : Result T TakeFault) : Type 0 where
+pub record Refuses {T W : Type 0} (old new : Stock) (wanted : Option W)
+    (result : Result T TakeFault) : Type 0 where
   pub failed : IsErr result ↔ (Contains old.failing (next_count old.takes) ⊎ (wanted ≡ None))
   pub fault : IfErr result (λ e. e ≡ TakeFault.Failed)
   pub failing : new.failing ≡ old.failing
@@ -53,7 +56,8 @@ pub record PutsSession (old new : Held Feed Tray Tape) (n : ℕ) (ends : Feed ×
   pub report : ReportStays old new
 
 -- this disk is held for the worker in this folder, and nothing else changes
-pub record PutsDisk (old new : Held Feed Tray Tape) (folder : List ℕ) (w : ℕ) (disk : Tape) : Type 0 where
+pub record PutsDisk (old new : Held Feed Tray Tape) (folder : List ℕ) (w : ℕ)
+    (disk : Tape) : Type 0 where
   pub put : new.disks folder w ≡ Some disk
   pub others : (f : List ℕ) (v : ℕ) → (f ≡ folder → v ≡ w → ⊥) → new.disks f v ≡ old.disks f v
   pub homes : (v : ℕ) → new.home v ≡ old.home v

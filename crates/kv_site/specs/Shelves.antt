@@ -1,5 +1,6 @@
 -- What a site in memory holds of one kind.
-use Rattle.std.specs.Prelude.{◌≡◌, ◌≢◌, ℕ, ◌==◌, ◌&&◌, Bool, List, [], ◌∷◌, Option, None, Some, if◌then◌else◌}
+use Rattle.std.specs.Prelude.{◌≡◌, ◌≢◌, ℕ, ◌==◌, ◌&&◌, Bool, List, [], ◌∷◌, Option, None, Some}
+use Rattle.std.specs.Prelude.{if◌then◌else◌}
 use Rattle.std.specs.Str.{bytes_eq}
 use Rattle.kv_site.specs.declared.shelf.Shelf.{Shelf}
 
@@ -13,12 +14,14 @@ is_home n shelf = shelf.home && (shelf.number == n)
 
 -- the place once a thing of this number was taken from this folder
 abbrev pub homed : {T : Type 0} → List ℕ → ℕ → Shelf T → Shelf T
-homed folder n shelf = if shelf.number == n then record shelf { home = bytes_eq shelf.folder folder } else shelf
+homed folder n shelf = if shelf.number == n
+    then record shelf { home = bytes_eq shelf.folder folder } else shelf
 
 -- what is held for this number in this folder
 abbrev pub thing_at : {T : Type 0} → List (Shelf T) → List ℕ → ℕ → Option T
 thing_at [] folder n = None
-thing_at (shelf ∷ rest) folder n = if is_at folder n shelf then shelf.thing else thing_at rest folder n
+thing_at (shelf ∷ rest) folder n = if is_at folder n shelf then shelf.thing
+    else thing_at rest folder n
 
 -- the folder from which the last thing of this number was taken
 abbrev pub home_of : {T : Type 0} → List (Shelf T) → ℕ → Option (List ℕ)
@@ -26,22 +29,25 @@ home_of [] n = None
 home_of (shelf ∷ rest) n = if is_home n shelf then Some shelf.folder else home_of rest n
 
 -- this is held for the number in this folder, and nothing else changes
-pub record Puts {T : Type 0} (old new : List (Shelf T)) (folder : List ℕ) (n : ℕ) (thing : T) : Type 0 where
+pub record Puts {T : Type 0} (old new : List (Shelf T)) (folder : List ℕ) (n : ℕ) (thing : T) : Type
+    0 where
   pub put : thing_at new folder n ≡ Some thing
   pub others : (f : List ℕ) (m : ℕ) → (f ≡ folder → m ≡ n → ⊥) → thing_at new f m ≡ thing_at old f m
   pub homes : (m : ℕ) → home_of new m ≡ home_of old m
 
 -- this was held for the number in this folder and is taken, and nothing else changes
-pub record Takes {T : Type 0} (old new : List (Shelf T)) (folder : List ℕ) (n : ℕ) (thing : T) : Type 0 where
+pub record Takes {T : Type 0} (old new : List (Shelf T)) (folder : List ℕ) (n : ℕ) (thing : T) :
+    Type 0 where
   pub was : thing_at old folder n ≡ Some thing
   pub gone : thing_at new folder n ≡ None
   pub home : home_of new n ≡ Some folder
   pub others : (f : List ℕ) (m : ℕ) → (f ≡ folder → m ≡ n → ⊥) → thing_at new f m ≡ thing_at old f m
   pub other_homes : (m : ℕ) → m ≢ n → home_of new m ≡ home_of old m
 
--- this is held for the number in the folder from which its last thing was taken, and is dropped where there is none;
--- nothing else changes
+-- this is held for the number in the folder from which its last thing was taken, and is dropped
+-- where there is none; nothing else changes
 pub record Gives {T : Type 0} (old new : List (Shelf T)) (n : ℕ) (thing : T) : Type 0 where
   pub back : (folder : List ℕ) → home_of old n ≡ Some folder → thing_at new folder n ≡ Some thing
-  pub others : (f : List ℕ) (m : ℕ) → (home_of old n ≡ Some f → m ≡ n → ⊥) → thing_at new f m ≡ thing_at old f m
+  pub others : (f : List ℕ) (m : ℕ) → (home_of old n ≡ Some f → m ≡ n → ⊥)
+      → thing_at new f m ≡ thing_at old f m
   pub homes : (m : ℕ) → home_of new m ≡ home_of old m

@@ -1,4 +1,5 @@
-ghost use Rattle.std.specs.Prelude.{◌≡◌, ◌≤◌, ◌<◌, ◌-◌, ◌*◌, ◌^◌, ℕ, true, false, Ok, IsErr, replicate, set, vec_len, IsTrue, IfOk, OnOk, OnErr};
+ghost use Rattle.std.specs.Prelude.{◌≡◌, ◌≤◌, ◌<◌, ◌-◌, ◌*◌, ◌^◌, ℕ, true, false, Ok, IsErr};
+ghost use Rattle.std.specs.Prelude.{replicate, set, vec_len, IsTrue, IfOk, OnOk, OnErr};
 ghost use Rattle.kv_base.specs.Calls.{next_count};
 ghost use Rattle.kv_base.specs.Fault.{HasCause};
 ghost use Rattle.kv_disk.specs.Disk.{Advances};
@@ -39,7 +40,12 @@ impl Model for FileDisk {
 
     ghost Value = { FileMarks };
 
-    ghost view = { λ d. record { unsynced = d.unsynced; folders = vec_len d.folders; calls = d.calls; faults = d.faults } };
+    ghost view = { λ d. record {
+      unsynced = d.unsynced;
+      folders = vec_len d.folders;
+      calls = d.calls;
+      faults = d.faults;
+    } };
 
     ghost invariant = { λ d. vec_len d.files ≡ 14 };
 }
@@ -82,7 +88,12 @@ impl FileDisk {
         folder: &str,
         worker: u32,
     ) -> Result<FileDisk, TakeFault>
-        ensures ok { IfOk result (λ disk. disk ≡ record { unsynced = replicate 14 true; folders = 3; calls = 0; faults = 0 }) }
+        ensures ok { IfOk result (λ disk. disk ≡ record {
+          unsynced = replicate 14 true;
+          folders = 3;
+          calls = 0;
+          faults = 0;
+        }) }
     {
         let home = format!(in alloc; "{folder}/{worker}")?;
         make_folder(rt, folder)?;

@@ -8,8 +8,8 @@ use kv_base::{ReaderSource, WriterSink};
 use std::marker::Model;
 
 /// The real site: its disks are folders, its ends are standard input, standard output, files and
-/// pipes, and its report is standard output. It tells nothing of what it holds, and drops what it is
-/// given back. Contracts see its count of faults.
+/// pipes, and its report is standard output. It tells nothing of what it holds, and drops what it
+/// is given back. Contracts see its count of faults.
 #[derive(Drop)]
 pub struct FileSite {
     rt: HostRuntime,

@@ -1,4 +1,5 @@
-//! Where a command takes its disks and its ends from: the trait, one that stands in memory, and one over real files.
+//! Where a command takes its disks and its ends from: the trait, one that stands in memory, and one
+//! over real files.
 #![tactic(auto)]
 
 mod ends;

@@ -1,7 +1,9 @@
-ghost use Rattle.std.specs.Prelude.{◌≡◌, ◌≤◌, true, false, [], None, Some, Err, IsTrue, IfOk, OnOk, OnErr};
+ghost use Rattle.std.specs.Prelude.{◌≡◌, ◌≤◌, true, false, [], None, Some, Err, IsTrue, IfOk, OnOk};
+ghost use Rattle.std.specs.Prelude.{OnErr};
 ghost use Rattle.std.specs.Option.{option_copied, option_map};
 ghost use Rattle.kv_base.specs.Fault.{Rose};
-ghost use Rattle.kv_site.specs.Held.{nothing_held, TakesSession, GivesSession, TakesDisk, GivesDisk, TakesReport, GivesReport};
+ghost use Rattle.kv_site.specs.Held.{nothing_held, TakesSession, GivesSession, TakesDisk};
+ghost use Rattle.kv_site.specs.Held.{GivesDisk, TakesReport, GivesReport};
 ghost use Rattle.kv_site.specs.MemorySite.{held_by, Refuses, SameCounts, PutsSession, PutsDisk};
 
 use crate::shelves::Shelves;
@@ -34,7 +36,15 @@ impl Model for MemSite {
 
     ghost Value = { Stock };
 
-    ghost view = { λ s. record { sessions = s.sessions.shelves.items; disks = s.disks.shelves.items; report = s.report; report_lent = s.report_lent; failing = s.tally.failing; takes = s.tally.takes; faults = s.tally.faults } };
+    ghost view = { λ s. record {
+      sessions = s.sessions.shelves.items;
+      disks = s.disks.shelves.items;
+      report = s.report;
+      report_lent = s.report_lent;
+      failing = s.tally.failing;
+      takes = s.tally.takes;
+      faults = s.tally.faults;
+    } };
 
     ghost invariant = { λ s. HasNoFolder s.sessions.shelves.items };
 }
@@ -43,7 +53,15 @@ impl MemSite {
     /// A site that holds nothing. The numbers are those of the takes that fail. Takes no memory.
     pub fn new(alloc: Global, failing: Calls) -> MemSite
         ensures empty { held_by result ≡ nothing_held }
-        ensures value { result ≡ record { sessions = []; disks = []; report = None; report_lent = false; failing = failing; takes = 0; faults = 0 } }
+        ensures value { result ≡ record {
+          sessions = [];
+          disks = [];
+          report = None;
+          report_lent = false;
+          failing = failing;
+          takes = 0;
+          faults = 0;
+        } }
     {
         MemSite {
             alloc,
@@ -66,7 +84,10 @@ impl MemSite {
         source: MemSource,
         sink: MemSink,
     ) -> Result<(), NoMemory>
-        ensures ok { OnOk result (PutsSession (held_by self.old) (held_by self.new) number (source, sink)) }
+        ensures ok { OnOk result (PutsSession (held_by self.old) (held_by self.new) number (
+          source,
+          sink,
+        )) }
         ensures counts { SameCounts self.old self.new }
         ensures err { OnErr result (self.new ≡ self.old) }
     {
@@ -76,7 +97,8 @@ impl MemSite {
 
     /// Holds this disk for the worker in this folder, in place of an earlier one.
     pub fn put_disk(&mut self, folder: &str, worker: u32, disk: MemDisk) -> Result<(), NoMemory>
-        ensures ok { OnOk result (PutsDisk (held_by self.old) (held_by self.new) folder.now worker disk) }
+        ensures ok { OnOk result (PutsDisk (held_by self.old) (held_by self.new) folder.now worker
+            disk) }
         ensures counts { SameCounts self.old self.new }
         ensures err { OnErr result (self.new ≡ self.old) }
     {
@@ -92,7 +114,8 @@ impl MemSite {
 
     /// The ends that it holds at the number of a session.
     pub fn session(&self, number: u32) -> Option<(&MemSource, &MemSink)>
-        ensures { option_map (λ ends. (ends.0.now, ends.1.now)) result ≡ (held_by self.now).sessions number }
+        ensures { option_map (λ ends. (ends.0.now, ends.1.now)) result ≡ (held_by self.now).sessions
+            number }
     {
         match self.sessions.get(NO_FOLDER, number) {
             Some((source, sink)) => Some((source, sink)),
@@ -134,7 +157,8 @@ impl Site for MemSite {
         _input: &str,
         _output: &str,
     ) -> Result<(MemSource, MemSink), TakeFault>
-        ensures taken { IsTrue true → IfOk result (TakesSession (held_by self.old) (held_by self.new) number) }
+        ensures taken { IsTrue true
+            → IfOk result (TakesSession (held_by self.old) (held_by self.new) number) }
         ensures kept { IsTrue true → OnErr result ((held_by self.new) ≡ (held_by self.old)) }
         ensures later { self.old.faults ≤ self.new.faults }
         ensures cause { result ≡ Err TakeFault.Failed → Rose self.old.faults self.new.faults }
@@ -151,7 +175,8 @@ impl Site for MemSite {
     }
 
     fn give_session(&mut self, number: u32, source: MemSource, sink: MemSink)
-        ensures given { IsTrue true → GivesSession (held_by self.old) (held_by self.new) number (source, sink) }
+        ensures given { IsTrue true → GivesSession (held_by self.old) (held_by self.new) number
+            (source, sink) }
         ensures later { self.old.faults ≤ self.new.faults }
         ensures counts { SameCounts self.old self.new }
     {
@@ -159,13 +184,15 @@ impl Site for MemSite {
     }
 
     fn take_disk(&mut self, folder: &str, worker: u32) -> Result<MemDisk, TakeFault>
-        ensures taken { IsTrue true → IfOk result (TakesDisk (held_by self.old) (held_by self.new) folder.now worker) }
+        ensures taken { IsTrue true
+            → IfOk result (TakesDisk (held_by self.old) (held_by self.new) folder.now worker) }
         ensures kept { IsTrue true → OnErr result ((held_by self.new) ≡ (held_by self.old)) }
         ensures later { self.old.faults ≤ self.new.faults }
         ensures cause { result ≡ Err TakeFault.Failed → Rose self.old.faults self.new.faults }
 
         // exactly when it fails
-        ensures exact { Refuses self.old self.new ((held_by self.old).disks folder.now worker) result }
+        ensures exact { Refuses self.old self.new ((held_by self.old).disks folder.now worker)
+            result }
     {
         let taken = if self.tally.begin() {
             None
@@ -184,7 +211,8 @@ impl Site for MemSite {
     }
 
     fn take_report(&mut self) -> Result<MemSink, TakeFault>
-        ensures taken { IsTrue true → IfOk result (TakesReport (held_by self.old) (held_by self.new)) }
+        ensures taken { IsTrue true
+            → IfOk result (TakesReport (held_by self.old) (held_by self.new)) }
         ensures kept { IsTrue true → OnErr result ((held_by self.new) ≡ (held_by self.old)) }
         ensures later { self.old.faults ≤ self.new.faults }
         ensures cause { result ≡ Err TakeFault.Failed → Rose self.old.faults self.new.faults }

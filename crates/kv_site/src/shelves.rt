@@ -57,7 +57,8 @@ impl<T: Drop> Shelves<T> {
         number: u32,
         thing: T,
     ) -> Result<(), NoMemory>
-        ensures ok { OnOk result (Puts self.old.shelves.items self.new.shelves.items folder.now number thing) }
+        ensures ok { OnOk result (Puts self.old.shelves.items self.new.shelves.items folder.now
+            number thing) }
         ensures err { OnErr result (self.new.shelves.items ≡ self.old.shelves.items) }
     {
         if let Some(at) = self.find(folder, number) {
@@ -76,7 +77,8 @@ impl<T: Drop> Shelves<T> {
 
     /// Takes what is held for this number in this folder.
     pub fn take(&mut self, folder: &[u8], number: u32) -> Option<T>
-        ensures some { IfSome result (Takes self.old.shelves.items self.new.shelves.items folder.now number) }
+        ensures some { IfSome result (Takes self.old.shelves.items self.new.shelves.items folder.now
+            number) }
         ensures none { IfNone result (thing_at self.old.shelves.items folder.now number ≡ None) }
         ensures kept { IfNone result (self.new.shelves.items ≡ self.old.shelves.items) }
     {
@@ -90,7 +92,8 @@ impl<T: Drop> Shelves<T> {
         Some(thing)
     }
 
-    /// Holds this again where the last thing of this number was taken from, and drops it where none was.
+    /// Holds this again where the last thing of this number was taken from, and drops it where none
+    /// was.
     pub fn give(&mut self, number: u32, thing: T)
         ensures { Gives self.old.shelves.items self.new.shelves.items number thing }
     {

@@ -1,6 +1,7 @@
 ghost use Rattle.std.specs.Prelude.{◌≡◌, ◌≤◌, ℕ, Bool, Err, IsTrue, IfOk, OnErr};
 ghost use Rattle.kv_base.specs.Fault.{Rose};
-ghost use Rattle.kv_site.specs.Held.{Held, TakesSession, GivesSession, TakesDisk, GivesDisk, TakesReport, GivesReport};
+ghost use Rattle.kv_site.specs.Held.{Held, TakesSession, GivesSession, TakesDisk, GivesDisk};
+ghost use Rattle.kv_site.specs.Held.{TakesReport, GivesReport};
 
 use crate::TakeFault;
 use kv_base::{Sink, Source};
@@ -36,7 +37,8 @@ pub trait Site {
         input: &str,
         output: &str,
     ) -> Result<(Self::In, Self::Out), TakeFault>
-        ensures taken { IsTrue tells → IfOk result (TakesSession (holds self.old) (holds self.new) number) }
+        ensures taken { IsTrue tells
+            → IfOk result (TakesSession (holds self.old) (holds self.new) number) }
         ensures kept { IsTrue tells → OnErr result (holds self.new ≡ holds self.old) }
         ensures later { faults self.old ≤ faults self.new }
         ensures cause { result ≡ Err TakeFault.Failed → Rose (faults self.old) (faults self.new) };
@@ -44,18 +46,20 @@ pub trait Site {
     /// Gives the ends of a session back to the number from which they were taken. Where nothing was
     /// ever taken from it they are dropped.
     fn give_session(&mut self, number: u32, source: Self::In, sink: Self::Out)
-        ensures given { IsTrue tells → GivesSession (holds self.old) (holds self.new) number (source, sink) }
+        ensures given { IsTrue tells → GivesSession (holds self.old) (holds self.new) number
+            (source, sink) }
         ensures later { faults self.old ≤ faults self.new };
 
     /// Takes the worker's disk in this folder.
     fn take_disk(&mut self, folder: &str, worker: u32) -> Result<Self::Pages, TakeFault>
-        ensures taken { IsTrue tells → IfOk result (TakesDisk (holds self.old) (holds self.new) folder.now worker) }
+        ensures taken { IsTrue tells
+            → IfOk result (TakesDisk (holds self.old) (holds self.new) folder.now worker) }
         ensures kept { IsTrue tells → OnErr result (holds self.new ≡ holds self.old) }
         ensures later { faults self.old ≤ faults self.new }
         ensures cause { result ≡ Err TakeFault.Failed → Rose (faults self.old) (faults self.new) };
 
-    /// Gives the worker's disk back to the folder from which one was last taken. Where none ever was
-    /// it is dropped.
+    /// Gives the worker's disk back to the folder from which one was last taken. Where none ever
+    /// was it is dropped.
     fn give_disk(&mut self, worker: u32, disk: Self::Pages)
         ensures given { IsTrue tells → GivesDisk (holds self.old) (holds self.new) worker disk }
         ensures later { faults self.old ≤ faults self.new };

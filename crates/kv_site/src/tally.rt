@@ -1,4 +1,5 @@
-ghost use Rattle.std.specs.Prelude.{◌≡◌, ◌≤◌, ◌↔◌, Contains, IsTrue, IfOk, IsSome, IsOk, IfErr, Some, is_err, if◌then◌else◌};
+ghost use Rattle.std.specs.Prelude.{◌≡◌, ◌≤◌, ◌↔◌, Contains, IsTrue, IfOk, IsSome, IsOk, IfErr};
+ghost use Rattle.std.specs.Prelude.{Some, is_err, if◌then◌else◌};
 ghost use Rattle.kv_base.specs.Calls.{next_count};
 
 use crate::TakeFault;
@@ -31,7 +32,10 @@ impl Tally {
         ensures err { IsOk result ↔ IsSome taken }
         ensures fault { IfErr result (λ e. e ≡ TakeFault.Failed) }
         ensures later { self.old.faults ≤ self.new.faults }
-        ensures counted { self.new ≡ record self.old { faults = if is_err result then next_count self.old.faults else self.old.faults } }
+        ensures counted { self.new ≡ record self.old {
+          faults = if is_err result
+              then next_count self.old.faults else self.old.faults;
+        } }
     {
         match taken {
             Some(thing) => Ok(thing),

@@ -65,7 +65,8 @@ fn a_take_fails_at_a_listed_number_and_where_nothing_is_held(rt: HostRuntime) ->
     put_session(alloc, &mut site, 0)?;
     put_disk(alloc, &mut site, "a", 3)?;
     put_report(alloc, &mut site)?;
-    // what is taken (a session's number, a worker's disk in the folder `a`, else the report), and the fault
+    // what is taken (a session's number, a worker's disk in the folder `a`, else the report), and
+    // the fault
     let rows = [
         (Some(0), None, None),
         (None, Some(3), Some(TakeFault::Failed)),

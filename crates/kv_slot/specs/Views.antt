@@ -18,7 +18,8 @@ what_stands (answers.Bad stamp) = Bad stamp
 abbrev pub of_least_class : ℕ → Slot → Slot
 of_least_class class (Never stamp) = Never stamp
 of_least_class class (Item stamp key value) =
-    if is_class (class_of all_classes (length key) (length value)) class then Item stamp key value else Bad stamp
+    if is_class (class_of all_classes (length key) (length value)) class then Item stamp key value
+    else Bad stamp
 of_least_class class (Tombstone stamp link) = Tombstone stamp link
 of_least_class class (Bad stamp) = Bad stamp
 of_least_class class (Torn stamp) = Torn stamp

@@ -4,8 +4,8 @@ ghost use Rattle.kv_model.specs.Reading.{page_of, offset_of};
 
 use kv_base::Place;
 
-/// The page where the slot begins, in the file of its class, and the offset in that page. The class is
-/// 1 to 11 and the slot below 2^24.
+/// The page where the slot begins, in the file of its class, and the offset in that page. The class
+/// is 1 to 11 and the slot below 2^24.
 pub fn spot(place: Place) -> (u32, u32)
     requires class { (1 ≤ place.class) × (place.class ≤ 11) }
     requires slot { place.slot < 2 ^ 24 }

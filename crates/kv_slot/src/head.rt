@@ -44,7 +44,8 @@ fn fill_head(page: &mut [u8], worker: u32, workers: u32)
     requires below { worker < workers }
     requires limit { workers ≤ 16 }
     requires page { 14 ≤ length page.old }
-    ensures { page.new ≡ padded (length page.old) (magic ++ to_le_bytes w16 1 ++ to_le_bytes w16 worker ++ to_le_bytes w16 workers) }
+    ensures { page.new ≡ padded (length page.old) (magic ++ to_le_bytes w16 1 ++ to_le_bytes w16
+        worker ++ to_le_bytes w16 workers) }
 {
     put_at(page, 0, &MAGIC);
     put_at(page, 8, &FORMAT.to_le_bytes());
@@ -57,7 +58,8 @@ fn fill_head(page: &mut [u8], worker: u32, workers: u32)
 pub fn read_head(page: &[u8; 4096]) -> HeadRead
     ensures value { IsReadAs result page.now }
     ensures zero { page.now ≡ zero_page → result ≡ HeadRead.Zero }
-    ensures head { (worker workers : ℕ) → IsHead page.now worker workers → result ≡ HeadRead.Head worker workers }
+    ensures head { (worker workers : ℕ) → IsHead page.now worker workers
+        → result ≡ HeadRead.Head worker workers }
 {
     if is_zero(page) {
         return HeadRead::Zero;

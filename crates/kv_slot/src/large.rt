@@ -1,4 +1,5 @@
-ghost use Rattle.std.specs.Prelude.{◌≡◌, ◌+◌, ◌-◌, ◌*◌, ◌<◌, ◌≤◌, ◌∷◌, ◌++◌, ◌==◌, Some, length, take, drop, vec_len, IfOk, OnOk, OnErr};
+ghost use Rattle.std.specs.Prelude.{◌≡◌, ◌+◌, ◌-◌, ◌*◌, ◌<◌, ◌≤◌, ◌∷◌, ◌++◌, ◌==◌, Some, length};
+ghost use Rattle.std.specs.Prelude.{take, drop, vec_len, IfOk, OnOk, OnErr};
 ghost use Rattle.std.specs.Int.{w64, to_le_bytes};
 ghost use Rattle.std.specs.List.{flat_map, list_all};
 ghost use Rattle.kv_model.specs.Layout.{all_classes, class_of, pages_in_slot};
@@ -53,19 +54,21 @@ pub enum Large {
         /// The number in the slot's stamp field.
         stamp: u64,
     },
-    /// An item of which a later page has another stamp: a stop came between the writes of its pages.
+    /// An item of which a later page has another stamp: a stop came between the writes of its
+    /// pages.
     Torn {
         /// The number in the slot's stamp field.
         stamp: u64,
     },
 }
 
-/// What stands in a slot of this class, 8 to 11, given all its pages in order. Only an item takes memory,
-/// and its want is the one error.
+/// What stands in a slot of this class, 8 to 11, given all its pages in order. Only an item takes
+/// memory, and its want is the one error.
 pub fn read_large(alloc: Global, pages: &[[u8; 4096]], class: u8) -> Result<Large, NoMemory>
     requires class { (8 ≤ class) × (class ≤ 11) }
     requires pages { length pages.now ≡ pages_in_slot class }
-    ensures ok { IfOk result (λ large. what_stands_large large ≡ read_large all_classes class pages.now) }
+    ensures ok { IfOk result (λ large. what_stands_large large ≡ read_large all_classes class
+        pages.now) }
     ensures err { OnErr result (IsItem (read_large all_classes class pages.now)) }
 {
     let count = pages_in_slot(class);
@@ -94,7 +97,8 @@ fn read_pages(
     later: &[[u8; 4096]],
     class: u8,
 ) -> Result<Large, NoMemory>
-    ensures ok { IfOk result (λ large. what_stands_large large ≡ read_large all_classes class (first.now ∷ later.now)) }
+    ensures ok { IfOk result (λ large. what_stands_large large ≡ read_large all_classes class
+        (first.now ∷ later.now)) }
     ensures err { OnErr result (IsItem (read_large all_classes class (first.now ∷ later.now))) }
 {
     let (header, front) = first.split_at(HEADER);
@@ -125,10 +129,13 @@ fn item_of(
     later: &[[u8; 4096]],
 ) -> Result<Large, NoMemory>
     requires { 255 ≤ length front.now }
-    ensures ok { IfOk result (λ large. what_stands_large large ≡ read_item all_classes class stamp key_len value_len
-        (front.now ++ flat_map (λ page. drop 8 page) later.now) (list_all (λ page. stamp_field page == stamp) later.now)) }
+    ensures ok { IfOk result (λ large. what_stands_large large ≡ read_item all_classes class stamp
+        key_len value_len
+        (front.now ++ flat_map (λ page. drop 8 page) later.now)
+        (list_all (λ page. stamp_field page == stamp) later.now)) }
     ensures err { OnErr result (IsItem (read_item all_classes class stamp key_len value_len
-        (front.now ++ flat_map (λ page. drop 8 page) later.now) (list_all (λ page. stamp_field page == stamp) later.now))) }
+        (front.now ++ flat_map (λ page. drop 8 page) later.now)
+        (list_all (λ page. stamp_field page == stamp) later.now))) }
 {
     if class_of(key_len, value_len) != Some(class) {
         return Ok(Large::Bad { stamp });
@@ -155,7 +162,8 @@ fn value_of(
     front: &[u8],
     later: &[[u8; 4096]],
 ) -> Result<Bytes, NoMemory>
-    ensures { IfOk result (λ value. value ≡ take value_len (front.now ++ flat_map (λ page. drop 8 page) later.now)) }
+    ensures { IfOk result (λ value. value
+        ≡ take value_len (front.now ++ flat_map (λ page. drop 8 page) later.now)) }
 {
     let mut value = Vec::with_capacity(alloc, value_len)?;
     append_up_to(&mut value, value_len, front)?;
@@ -167,7 +175,8 @@ fn value_of(
 
 fn append_up_to(value: &mut Vec<u8>, most: usize, part: &[u8]) -> Result<(), NoMemory>
     requires { vec_len value.old ≤ most }
-    ensures ok { OnOk result (value.new.items ≡ value.old.items ++ take (most - length value.old.items) part.now) }
+    ensures ok { OnOk result (value.new.items ≡ value.old.items
+        ++ take (most - length value.old.items) part.now) }
     ensures len { OnOk result (vec_len value.new ≤ most) }
 {
     value.extend_from_slice(front_of(part, most - value.len()))?;
@@ -215,7 +224,8 @@ fn fill_first(page: &mut [u8], stamp: u64, key: &[u8], value: &[u8])
     requires key { length key.now ≤ 255 }
     requires value { length value.now ≤ 65400 }
     requires page { length page.old ≡ 4096 }
-    ensures { page.new ≡ padded 4096 (item_header stamp key.now value.now ++ take 4080 (key.now ++ value.now)) }
+    ensures { page.new ≡ padded 4096 (item_header stamp key.now value.now
+        ++ take 4080 (key.now ++ value.now)) }
 {
     let front = front_of(value, FIRST_CONTENT - key.len());
     fill_item(page, stamp, key, value.len() as u32, front);
@@ -224,7 +234,8 @@ fn fill_first(page: &mut [u8], stamp: u64, key: &[u8], value: &[u8])
 fn part_of<'a>(key: &[u8], value: &'a [u8], number: usize) -> &'a [u8]
     requires key { length key.now ≤ 255 }
     requires number { (1 ≤ number) × (number < 16) }
-    ensures value { result.now ≡ take 4088 (drop (4080 + 4088 * (number - 1)) (key.now ++ value.now)) }
+    ensures value { result.now
+        ≡ take 4088 (drop (4080 + 4088 * (number - 1)) (key.now ++ value.now)) }
     ensures len { length result.now ≤ 4088 }
 {
     front_of(

@@ -1,4 +1,5 @@
-//! What stands in a slot and on the head page: read from the bytes of a page, and written into them.
+//! What stands in a slot and on the head page: read from the bytes of a page, and written into
+//! them.
 #![tactic(auto)]
 
 mod address;

@@ -1,4 +1,5 @@
-ghost use Rattle.std.specs.Prelude.{◌≡◌, ℕ, ◌+◌, ◌-◌, ◌^◌, ◌<◌, ◌≤◌, true, ◌++◌, take, drop, length};
+ghost use Rattle.std.specs.Prelude.{◌≡◌, ℕ, ◌+◌, ◌-◌, ◌^◌, ◌<◌, ◌≤◌, true, ◌++◌, take, drop};
+ghost use Rattle.std.specs.Prelude.{length};
 ghost use Rattle.kv_model.specs.Layout.{all_classes, class_of, only_class, room_of, slot_size};
 ghost use Rattle.kv_model.specs.Slots.{read_small, read_item};
 ghost use Rattle.kv_model.specs.Padding.{padded};
@@ -62,12 +63,13 @@ pub fn slot_size(class: u8) -> usize
     }
 }
 
-/// What stands in the slot of this class, 1 to 7, at the offset, in a store that has no other class: an
-/// item is one where the slot's room holds it.
+/// What stands in the slot of this class, 1 to 7, at the offset, in a store that has no other
+/// class: an item is one where the slot's room holds it.
 pub fn read_fitting<'a>(page: &'a [u8; 4096], class: u8, offset: u32) -> Slot<'a>
     requires class { (1 ≤ class) × (class ≤ 7) }
     requires within { offset + slot_size class ≤ 4096 }
-    ensures { what_stands result ≡ read_small (only_class class) class (take (slot_size class) (drop offset page.now)) }
+    ensures { what_stands result ≡ read_small (only_class class) class
+        (take (slot_size class) (drop offset page.now)) }
 {
     let begin = offset as usize;
     let size = slot_size(class);
@@ -108,7 +110,8 @@ fn item_of<'a>(
 ) -> Slot<'a>
     requires room { length content.now ≡ room_of class }
     requires fits { key_len + value_len < 2 ^ 64 }
-    ensures { what_stands result ≡ read_item (only_class class) class stamp key_len value_len content.now true }
+    ensures { what_stands result ≡ read_item (only_class class) class stamp key_len value_len
+        content.now true }
 {
     if key_len < 1 || key_len > LONGEST_KEY || key_len + value_len > content.len() {
         return Slot::Bad { stamp };
@@ -121,12 +124,13 @@ fn item_of<'a>(
     }
 }
 
-/// What stands in the slot of this class, 1 to 7, at the offset, in a store that has the classes 1 to 11:
-/// an item is one where this is the least class that holds it.
+/// What stands in the slot of this class, 1 to 7, at the offset, in a store that has the classes 1
+/// to 11: an item is one where this is the least class that holds it.
 pub fn read_slot<'a>(page: &'a [u8; 4096], class: u8, offset: u32) -> Slot<'a>
     requires class { (1 ≤ class) × (class ≤ 7) }
     requires within { offset + slot_size class ≤ 4096 }
-    ensures { what_stands result ≡ read_small all_classes class (take (slot_size class) (drop offset page.now)) }
+    ensures { what_stands result ≡ read_small all_classes class
+        (take (slot_size class) (drop offset page.now)) }
 {
     of_least_class(read_fitting(page, class, offset), class)
 }
@@ -142,8 +146,9 @@ fn of_least_class<'a>(slot: Slot<'a>, class: u8) -> Slot<'a>
     }
 }
 
-/// Writes an item into the slot of this class, 1 to 7, at the offset: its key has 1 to 255 bytes, and the
-/// slot's room holds key and value. The rest of the slot is zeros, and all bytes outside it stay.
+/// Writes an item into the slot of this class, 1 to 7, at the offset: its key has 1 to 255 bytes,
+/// and the slot's room holds key and value. The rest of the slot is zeros, and all bytes outside it
+/// stay.
 pub fn put_fitting(
     page: &mut [u8; 4096],
     class: u8,
@@ -156,7 +161,8 @@ pub fn put_fitting(
     requires within { offset + slot_size class ≤ 4096 }
     requires key { (1 ≤ length key.now) × (length key.now ≤ 255) }
     requires fits { length key.now + length value.now ≤ room_of class }
-    ensures bytes { page.new ≡ overwritten page.old offset (item_bytes class stamp key.now value.now) }
+    ensures bytes { page.new ≡ overwritten page.old offset (item_bytes class stamp key.now
+        value.now) }
     ensures size { length page.new ≡ 4096 }
 {
     let begin = offset as usize;
@@ -170,25 +176,27 @@ pub fn put_fitting(
     );
 }
 
-/// Writes an item of this class, 1 to 7, into its slot at the offset. The rest of the slot is zeros, and
-/// all bytes outside it stay.
+/// Writes an item of this class, 1 to 7, into its slot at the offset. The rest of the slot is
+/// zeros, and all bytes outside it stay.
 pub fn put_item(page: &mut [u8; 4096], class: u8, offset: u32, stamp: u64, key: &[u8], value: &[u8])
     requires class { (1 ≤ class) × (class ≤ 7) }
     requires within { offset + slot_size class ≤ 4096 }
     requires item { class_of all_classes (length key.now) (length value.now) ≡ Some class }
-    ensures bytes { page.new ≡ overwritten page.old offset (item_bytes class stamp key.now value.now) }
+    ensures bytes { page.new ≡ overwritten page.old offset (item_bytes class stamp key.now
+        value.now) }
     ensures size { length page.new ≡ 4096 }
 {
     put_fitting(page, class, offset, stamp, key, value);
 }
 
-/// Fills the slot, or its first page, with an item's header, its key and the front of its value, and then
-/// with zeros.
+/// Fills the slot, or its first page, with an item's header, its key and the front of its value,
+/// and then with zeros.
 pub fn fill_item(slot: &mut [u8], stamp: u64, key: &[u8], value_len: u32, front: &[u8])
     requires key { length key.now ≤ 255 }
     requires fits { length key.now + length front.now + 16 ≤ length slot.old }
     requires slot { length slot.old ≤ 4096 }
-    ensures { slot.new ≡ padded (length slot.old) (header_bytes stamp 1 (length key.now) value_len ++ key.now ++ front.now) }
+    ensures { slot.new ≡ padded (length slot.old) (header_bytes stamp 1 (length key.now) value_len
+        ++ key.now ++ front.now) }
 {
     put_header(slot, stamp, ITEM, key.len() as u16, value_len);
     put_at(slot, HEADER, key);

@@ -257,7 +257,8 @@ fn pages_of(
     }
 }
 
-/// What the pages of a slot of the class read as: the variant, and whether it has this key and value.
+/// What the pages of a slot of the class read as: the variant, and whether it has this key and
+/// value.
 fn told_large(
     alloc: Global,
     pages: &[[u8; 4096]],

@@ -1,9 +1,12 @@
-ghost use Rattle.std.specs.Prelude.{◌≡◌, ℕ, ◌+◌, ◌^◌, ◌<◌, ◌≤◌, ◌∷◌, List, Option, take, drop, length};
+ghost use Rattle.std.specs.Prelude.{◌≡◌, ℕ, ◌+◌, ◌^◌, ◌<◌, ◌≤◌, ◌∷◌, List, Option, take, drop};
+ghost use Rattle.std.specs.Prelude.{length};
 ghost use Rattle.std.specs.Option.{ForSome};
 ghost use Rattle.kv_model.specs.Layout.{Layout, slot_size};
 ghost use Rattle.kv_model.specs.Padding.{padded};
-ghost use Rattle.kv_model.specs.SlotBytes.{header_bytes, link_field, tombstone_bytes, tombstone_size};
-ghost use Rattle.kv_model.specs.Slots.{Tombstone, last_field, link_named, read_large, read_small, stamp_field};
+ghost use Rattle.kv_model.specs.SlotBytes.{header_bytes, link_field, tombstone_bytes};
+ghost use Rattle.kv_model.specs.SlotBytes.{tombstone_size};
+ghost use Rattle.kv_model.specs.Slots.{Tombstone, last_field, link_named, read_large, read_small};
+ghost use Rattle.kv_model.specs.Slots.{stamp_field};
 ghost use Rattle.kv_slot.specs.Overwrite.{overwritten};
 
 use crate::header::{HEADER, TOMBSTONE, put_header};
@@ -13,9 +16,9 @@ use crate::small::slot_size;
 
 const PAGE: usize = 4_096;
 
-/// Writes a tombstone into the slot of this class, 1 to 11, at the offset, which is 0 from class 8 on. The
-/// rest of the slot is zeros, and all bytes outside it stay; of a slot larger than a page, this is its
-/// first page alone. A link is below 2^24.
+/// Writes a tombstone into the slot of this class, 1 to 11, at the offset, which is 0 from class 8
+/// on. The rest of the slot is zeros, and all bytes outside it stay; of a slot larger than a page,
+/// this is its first page alone. A link is below 2^24.
 pub fn put_tombstone(page: &mut [u8; 4096], class: u8, offset: u32, stamp: u64, link: Option<u32>)
     requires class { (1 ≤ class) × (class ≤ 11) }
     requires small { class ≤ 7 → offset + slot_size class ≤ 4096 }
@@ -56,16 +59,18 @@ fn link_field(link: Option<u32>) -> u32
     }
 }
 
-/// The link of the tombstone in the slot of this class, 1 to 11, at the offset, which is 0 from class 8
-/// on. Of a larger slot the page is its first one.
+/// The link of the tombstone in the slot of this class, 1 to 11, at the offset, which is 0 from
+/// class 8 on. Of a larger slot the page is its first one.
 pub fn link_of(page: &[u8; 4096], class: u8, offset: u32) -> Option<u32>
     requires class { (1 ≤ class) × (class ≤ 11) }
     requires small { class ≤ 7 → offset + slot_size class ≤ 4096 }
     requires large { 8 ≤ class → offset ≡ 0 }
     ensures value { result ≡ link_named (last_field (take 16 (drop offset page.now))) }
     ensures small { (layout : Layout) (stamp : ℕ) (link : Option ℕ) → class ≤ 7
-        → read_small layout class (take (slot_size class) (drop offset page.now)) ≡ Tombstone stamp link → result ≡ link }
-    ensures large { (layout : Layout) (stamp : ℕ) (link : Option ℕ) (later : List (List ℕ)) → 8 ≤ class
+        → read_small layout class (take (slot_size class) (drop offset page.now))
+        ≡ Tombstone stamp link → result ≡ link }
+    ensures large { (layout : Layout) (stamp : ℕ) (link : Option ℕ) (later : List (List ℕ))
+        → 8 ≤ class
         → read_large layout class (page.now ∷ later) ≡ Tombstone stamp link → result ≡ link }
 {
     let begin = offset as usize;

@@ -1,4 +1,5 @@
-//! The program: `kvell serve DIR 1 - -` answers puts and gets from standard input to standard output.
+//! The program: `kvell serve DIR 1 - -` answers puts and gets from standard input to standard
+//! output.
 #![tactic(auto)]
 
 use kv_serve::run_words;

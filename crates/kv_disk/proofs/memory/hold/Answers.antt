@@ -10,17 +10,24 @@ use Rattle.kv_disk.proofs.memory.hold.Goals as goal
 pub returns-clause-place : goal.returns-clause-place
 returns-clause-place c =
     let found = rw c.deref.ensures.value at c.find.ensures in
-    let absent : place_in c.args.spots.now.items c.args.file c.args.page ≡ None = sym found ∙ c.in_default.is in
+    let absent : place_in c.args.spots.now.items c.args.file c.args.page ≡ None = sym found
+    ∙ c.in_default.is in
     let pushed = rw c.unwrap.ensures at c.push.ensures.items in
-    let counted : c.len-place.result ≡ length c.args.spots.now.items = c.len-place.ensures ∙ c.args.spots.now.ok.0 in
-    ap (λ spots. place_in spots c.args.file c.args.page) pushed ∙ place_in-push c.args.spots.now.items c.args.file c.args.page absent c.args.file c.args.page
-    ∙ cond-true _ _ _ (test-at c.args.file c.args.page c.args.file c.args.page refl refl) ∙ ap Some (sym counted)
+    let counted : c.len-place.result ≡ length c.args.spots.now.items = c.len-place.ensures
+    ∙ c.args.spots.now.ok.0 in
+    ap (λ spots. place_in spots c.args.file c.args.page) pushed
+    ∙ place_in-push c.args.spots.now.items c.args.file c.args.page absent c.args.file
+    c.args.page
+    ∙ cond-true _ _ _ (test-at c.args.file c.args.page c.args.file c.args.page refl refl)
+    ∙ ap Some (sym counted)
 
 pub returns-clause-reads : goal.returns-clause-reads
 unfolding zero_page
 returns-clause-reads c f p =
     let found = rw c.deref.ensures.value at c.find.ensures in
-    let absent : place_in c.args.spots.now.items c.args.file c.args.page ≡ None = sym found ∙ c.in_default.is in
+    let absent : place_in c.args.spots.now.items c.args.file c.args.page ≡ None = sym found
+    ∙ c.in_default.is in
     let pushed = rw c.unwrap.ensures at c.push.ensures.items in
     let put = rw c.unwrap-2.ensures at c.push-2.ensures.items in
-    rw (pushed, put) (content-new c.args.spots.now.items c.args.contents.now.items c.args.file c.args.page f p absent c.requires.as_many)
+    rw (pushed, put) (content-new c.args.spots.now.items c.args.contents.now.items c.args.file
+    c.args.page f p absent c.requires.as_many)

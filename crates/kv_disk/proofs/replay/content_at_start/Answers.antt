@@ -8,4 +8,5 @@ use Rattle.kv_disk.proofs.replay.content_at_start.Goals as goal
 pub returns : goal.returns
 unfolding zero_page
 returns c =
-    sym (at_drop_all (λ xs. start_of xs c.args.file c.args.page) c.args.start.now c.loop-held.held-index (omega arith)) ∙ c.loop-held.invariant
+    sym (at_drop_all (λ xs. start_of xs c.args.file c.args.page) c.args.start.now
+    c.loop-held.held-index (omega arith)) ∙ c.loop-held.invariant

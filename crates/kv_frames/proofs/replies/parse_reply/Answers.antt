@@ -4,7 +4,8 @@ use Rattle.kv_frames.proofs.ReplyLemmas.{reply_is_whole, reply_is_found, reply_i
 use Rattle.kv_frames.proofs.ReplyLemmas.{begins_with_found, OnErr-from}
 use Rattle.kv_frames.proofs.replies.parse_reply.Goals as goal
 
-pub returns-in_err-reply-in-Whole-clause-malformed : goal.returns-in_err-reply-in-Whole-clause-malformed
+pub returns-in_err-reply-in-Whole-clause-malformed :
+    goal.returns-in_err-reply-in-Whole-clause-malformed
 returns-in_err-reply-in-Whole-clause-malformed c = λ malformed.
     let found = begins_with_found c.in-Whole.ensures c.in_err-reply-in-Whole.ensures.err
     (λ i. omega (arith, c.type_inv.bytes i)) in

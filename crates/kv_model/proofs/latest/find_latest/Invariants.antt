@@ -6,4 +6,5 @@ use Rattle.kv_model.specs.Oracle.{history_of, write_of}
 use Rattle.kv_model.proofs.latest.find_latest.Given as goal
 
 abbrev pub invariant-loop-write : goal.invariant-loop-write
-invariant-loop-write l = option_map write_of (option_copied l.best) ≡ latest (history_of (take l.write-index l.writes)) l.stamp l.key
+invariant-loop-write l = option_map write_of (option_copied l.best)
+    ≡ latest (history_of (take l.write-index l.writes)) l.stamp l.key

@@ -1,8 +1,10 @@
 -- Each transcript in its parts: what was handled, what went out and what is left.
-use Rattle.std.proofs.Common.{◌≡◌, ◌≤◌, ◌^◌, ◌<◌, ℕ, List, [], ◌∷◌, Option, Some, refl, arith, inl, inr, rules}
+use Rattle.std.proofs.Common.{◌≡◌, ◌≤◌, ◌^◌, ◌<◌, ℕ, List, [], ◌∷◌, Option, Some, refl, arith, inl}
+use Rattle.std.proofs.Common.{inr, rules}
 use Rattle.kv_base.specs.declared.request.Request.TheVariants.{Put, Get}
 use Rattle.kv_base.specs.declared.reply.Reply.{Reply}
-use Rattle.kv_base.specs.declared.reply.Reply.TheVariants.{Stored, Found, Missing, BadKey, Malformed}
+use Rattle.kv_base.specs.declared.reply.Reply.TheVariants.{Stored, Found, Missing, BadKey}
+use Rattle.kv_base.specs.declared.reply.Reply.TheVariants.{Malformed}
 use Rattle.kv_model.specs.Examples.{put_a, key_a, value_1, malformed_8_bytes}
 use Rattle.kv_model.proofs.FrameLemmas.{BeginsWithNoRequest-partial}
 use Rattle.kv_model.proofs.tests.sessions_have_their_transcripts.Goals as goal
@@ -11,9 +13,18 @@ pub returns-clause-put_and_get : goal.returns-clause-put_and_get
 returns-clause-put_and_get c = record {
   rest = [];
   closing = [];
-  fronts = record { parts = refl; each = (record { body = omega arith; size = omega arith }, (record { body = tt; size = omega arith }, tt)) };
+  fronts = record {
+    parts = refl;
+    each = (
+      record { body = omega arith; size = omega arith },
+      (record { body = tt; size = omega arith }, tt),
+    );
+  };
   each = refl;
-  framed = (record { body = omega arith; size = omega arith }, (record { body = omega arith; size = omega arith }, tt));
+  framed = (
+    record { body = omega arith; size = omega arith },
+    (record { body = omega arith; size = omega arith }, tt),
+  );
   closes = (refl, refl, refl);
   out = (Stored 1 ∷ Found 2 value_1 ∷ [], [], refl, refl, refl);
   leaves = refl;
@@ -35,9 +46,18 @@ pub returns-clause-refused : goal.returns-clause-refused
 returns-clause-refused c = record {
   rest = [];
   closing = [];
-  fronts = record { parts = refl; each = (record { body = omega arith; size = omega arith }, (record { body = omega arith; size = omega arith }, tt)) };
+  fronts = record {
+    parts = refl;
+    each = (
+      record { body = omega arith; size = omega arith },
+      (record { body = omega arith; size = omega arith }, tt),
+    );
+  };
   each = refl;
-  framed = (record { body = tt; size = omega arith }, (record { body = omega arith; size = omega arith }, tt));
+  framed = (
+    record { body = tt; size = omega arith },
+    (record { body = omega arith; size = omega arith }, tt),
+  );
   closes = (refl, refl, refl);
   out = (BadKey ∷ Stored 1 ∷ [], [], refl, refl, refl);
   leaves = refl;
@@ -49,8 +69,14 @@ returns-clause-cut c = record {
   closing = Malformed 8 ∷ [];
   fronts = record { parts = refl; each = (record { body = omega arith; size = omega arith }, tt) };
   each = refl;
-  framed = (record { body = omega arith; size = omega arith }, (record { body = omega arith; size = omega arith }, tt));
-  closes = (BeginsWithNoRequest-partial _ (λ _. (omega arith, omega arith, omega arith)), record { bad = omega arith; at = refl; told = refl });
+  framed = (
+    record { body = omega arith; size = omega arith },
+    (record { body = omega arith; size = omega arith }, tt),
+  );
+  closes = (
+    BeginsWithNoRequest-partial _ (λ _. (omega arith, omega arith, omega arith)),
+    record { bad = omega arith; at = refl; told = refl },
+  );
   out = (Stored 1 ∷ Malformed 8 ∷ [], [], refl, refl, refl);
   leaves = refl;
 }
@@ -59,9 +85,18 @@ pub returns-clause-sink_fails : goal.returns-clause-sink_fails
 returns-clause-sink_fails c = record {
   rest = [];
   closing = [];
-  fronts = record { parts = refl; each = (record { body = omega arith; size = omega arith }, (record { body = tt; size = omega arith }, tt)) };
+  fronts = record {
+    parts = refl;
+    each = (
+      record { body = omega arith; size = omega arith },
+      (record { body = tt; size = omega arith }, tt),
+    );
+  };
   each = refl;
-  framed = (record { body = omega arith; size = omega arith }, (record { body = omega arith; size = omega arith }, tt));
+  framed = (
+    record { body = omega arith; size = omega arith },
+    (record { body = omega arith; size = omega arith }, tt),
+  );
   closes = inl refl;
   out = (Stored 1 ∷ [], [], refl, refl, (_, omega arith, refl));
   leaves = omega arith;

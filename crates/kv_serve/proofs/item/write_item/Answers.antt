@@ -1,10 +1,12 @@
 -- What was put is the whole page, and the sync leaves it.
-use Rattle.std.proofs.Common.{◌≡◌, ap, ◌∙◌, length, refl}
+use Rattle.std.proofs.Common.{ap, ◌∙◌, refl}
 use Rattle.kv_base.specs.Image.{with_page}
 use Rattle.kv_serve.proofs.ItemLemmas.{overwritten-item_bytes}
 use Rattle.kv_serve.proofs.item.write_item.Goals as goal
 
 pub returns-clause-written : goal.returns-clause-written
 returns-clause-written g c told =
-    let content = c.put_fitting.ensures.bytes ∙ overwritten-item_bytes _ c.args.stamp c.args.key.now c.args.value.now refl c.requires.fits in
-    c.sync.ensures.seen told ∙ (c.in_ok-write.ensures.written told ∙ ap (with_page (g.D.Disk.seen c.args.disk.now) 7 c.args.page) content)
+    let content = c.put_fitting.ensures.bytes ∙ overwritten-item_bytes _ c.args.stamp c.args.key.now
+    c.args.value.now refl c.requires.fits in
+    c.sync.ensures.seen told ∙ (c.in_ok-write.ensures.written told
+    ∙ ap (with_page (g.D.Disk.seen c.args.disk.now) 7 c.args.page) content)

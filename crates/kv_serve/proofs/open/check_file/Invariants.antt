@@ -7,4 +7,5 @@ abbrev pub invariant-loop-page : goal.invariant-loop-page
 invariant-loop-page g l =
     (IsTrue g.D.Disk.tells → g.D.Disk.seen l.disk ≡ g.D.Disk.seen l.initial.disk)
     × (g.D.Disk.faults l.initial.disk ≤ g.D.Disk.faults l.disk)
-    × (IsTrue g.D.Disk.tells → (page : ℕ) → page < l.page → g.D.Disk.seen l.initial.disk l.file page ≡ zero_page)
+    × (IsTrue g.D.Disk.tells → (page : ℕ) → page < l.page → g.D.Disk.seen l.initial.disk l.file page
+    ≡ zero_page)

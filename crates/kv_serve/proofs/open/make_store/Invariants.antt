@@ -7,4 +7,5 @@ abbrev pub invariant-loop-file : goal.invariant-loop-file
 invariant-loop-file g l =
     (IsTrue g.D.Disk.tells → g.D.Disk.seen l.disk ≡ g.D.Disk.seen l.initial.disk)
     × (g.D.Disk.faults l.initial.disk ≤ g.D.Disk.faults l.disk)
-    × (IsTrue g.D.Disk.tells → (file page : ℕ) → file < l.file → g.D.Disk.seen l.initial.disk file page ≡ zero_page)
+    × (IsTrue g.D.Disk.tells → (file page : ℕ) → file < l.file
+    → g.D.Disk.seen l.initial.disk file page ≡ zero_page)

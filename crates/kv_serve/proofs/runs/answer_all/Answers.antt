@@ -1,5 +1,6 @@
 use Rattle.std.proofs.Common.{arith, ap, List, ℕ, length}
-use Rattle.kv_serve.proofs.RunLemmas.{AnswersAll-new, AnswersAll-arrives, AnswersAll-answers, Answers-room, IsReady-earlier}
+use Rattle.kv_serve.proofs.RunLemmas.{AnswersAll-new, AnswersAll-arrives, AnswersAll-answers}
+use Rattle.kv_serve.proofs.RunLemmas.{Answers-room, IsReady-earlier}
 use Rattle.kv_serve.proofs.runs.answer_all.Goals as goal
 
 pub loop-worker-init : goal.loop-worker-init

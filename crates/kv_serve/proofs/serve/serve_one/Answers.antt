@@ -1,5 +1,5 @@
 -- The session's run and what the store's steps make of it.
-use Rattle.std.proofs.Common.{◌≡◌, ◌∙◌, ap, arith, ◌||◌}
+use Rattle.std.proofs.Common.{◌∙◌, ap, arith, ◌||◌}
 use Rattle.kv_serve.specs.Causes.{any_unsure}
 use Rattle.kv_serve.specs.Run.{pairs_of}
 use Rattle.kv_serve.proofs.AnswerLemmas.{run_has_answers, run_unsure}
@@ -19,8 +19,10 @@ returns g c =
       counted = s.counted;
       spent = s.spent;
       transcript = s.transcript;
-      answers = run_has_answers _ (pairs_of s.handled s.replies) _ _ c.requires.holds c.requires.next c.requires.open c.run-finished.new.worker.next_fits (omega arith) s.runs;
-      unsure_is = run_unsure (pairs_of s.handled s.replies) _ _ s.runs ∙ ap (λ closed. closed || any_unsure (pairs_of s.handled s.replies)) c.requires.open;
+      answers = run_has_answers _ (pairs_of s.handled s.replies) _ _ c.requires.holds
+          c.requires.next c.requires.open c.run-finished.new.worker.next_fits (omega arith) s.runs;
+      unsure_is = run_unsure (pairs_of s.handled s.replies) _ _ s.runs
+          ∙ ap (λ closed. closed || any_unsure (pairs_of s.handled s.replies)) c.requires.open;
       source_rose = s.source_rose;
       sink_rose = s.sink_rose;
     }

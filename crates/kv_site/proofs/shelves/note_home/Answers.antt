@@ -9,5 +9,9 @@ pub loop-at-preserved : goal.loop-at-preserved
 loop-at-preserved g c =
     let f = homed {T = g.row.T.Denot} c.args.folder.now c.args.number in
     let s = c.index_mut.result.now in
-    let is : s ≡ get_or (map f (take c.loop-at.at c.args.shelves.now.items) ++ drop c.loop-at.at c.args.shelves.now.items) c.loop-at.at s = c.index_mut.ensures.value ∙ ap (λ (ys : List (Shelf g.row.T.Denot)). get_or ys c.loop-at.at s) c.loop-at.invariant in
-    rw (add-one, c.set_home.ensures, c.loop-at.invariant) (map-step f c.args.shelves.now.items c.loop-at.at s (omega arith) is)
+    let is : s ≡ get_or (map f (take c.loop-at.at c.args.shelves.now.items) ++ drop c.loop-at.at
+    c.args.shelves.now.items) c.loop-at.at s = c.index_mut.ensures.value
+    ∙ ap (λ (ys : List (Shelf g.row.T.Denot)). get_or ys c.loop-at.at s)
+    c.loop-at.invariant in
+    rw (add-one, c.set_home.ensures, c.loop-at.invariant) (map-step f c.args.shelves.now.items
+    c.loop-at.at s (omega arith) is)

@@ -8,4 +8,6 @@ use Rattle.kv_slot.proofs.head.put_head.Goals as goal
 pub returns-clause-bytes : goal.returns-clause-bytes
 unfolding head_page
 returns-clause-bytes c =
-    c.fill_head.ensures ∙ ap (λ size. padded size (magic ++ to_le_bytes w16 1 ++ to_le_bytes w16 c.args.worker ++ to_le_bytes w16 c.args.workers)) c.told-page
+    c.fill_head.ensures
+    ∙ ap (λ size. padded size (magic ++ to_le_bytes w16 1 ++ to_le_bytes w16 c.args.worker
+    ++ to_le_bytes w16 c.args.workers)) c.told-page

@@ -7,7 +7,8 @@ use Rattle.kv_slot.proofs.head.read_head.Goals as goal
 
 pub returns-then-is_zero-clause-head : goal.returns-then-is_zero-clause-head
 returns-then-is_zero-clause-head c worker workers head =
-    absurd (zeros_no_head c.args.page.now worker workers (c.is_zero.ensures.0 c.if-is_zero.true) head)
+    absurd (zeros_no_head c.args.page.now worker workers (c.is_zero.ensures.0 c.if-is_zero.true)
+    head)
 
 pub returns-then-is_head-clause-head : goal.returns-then-is_head-clause-head
 returns-then-is_head-clause-head c worker workers head =
@@ -16,7 +17,8 @@ returns-then-is_head-clause-head c worker workers head =
 -- not by the fields, so not by other numbers
 none : (c : goal.Else-is_head) (worker workers : ℕ) → IsHead c.args.page.now worker workers → ⊥
 none c worker workers head =
-    no_head c.args.page.now _ _ worker workers c.field-worker.ensures c.field-workers.ensures (λ h. false≢true (sym c.if-is_head.false ∙ c.is_head.ensures.1 h)) head
+    no_head c.args.page.now _ _ worker workers c.field-worker.ensures c.field-workers.ensures
+    (λ h. false≢true (sym c.if-is_head.false ∙ c.is_head.ensures.1 h)) head
 
 pub returns-else-is_head-clause-value : goal.returns-else-is_head-clause-value
 returns-else-is_head-clause-value c =

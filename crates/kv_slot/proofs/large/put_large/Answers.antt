@@ -10,7 +10,9 @@ loop-number-preserved c =
     let f = large_page c.args.stamp c.args.key.now c.args.value.now in
     let n = c.loop-number.number in
     record {
-      written = (rw c.unwrap.ensures at c.append.ensures.ok) ∙ ap (λ items. items ++ c.page_with.result ∷ []) c.loop-number.invariant.written
-          ∙ ap (λ page. map f (range_with_len 0 n) ++ page ∷ []) c.page_with.ensures ∙ sym (map-range_with_len_more f 0 n n (omega arith));
+      written = (rw c.unwrap.ensures at c.append.ensures.ok)
+          ∙ ap (λ items. items ++ c.page_with.result ∷ []) c.loop-number.invariant.written
+          ∙ ap (λ page. map f (range_with_len 0 n) ++ page ∷ []) c.page_with.ensures
+          ∙ sym (map-range_with_len_more f 0 n n (omega arith));
       room = omega (arith, rw c.unwrap.ensures at c.append.ensures.spare);
     }

@@ -11,4 +11,6 @@ unfolding item_bytes
 returns-clause-bytes c =
     let key = c.args.key.now in
     let value = c.args.value.now in
-    part_put c.args.page.now c.fill_item.new.slot _ c.args.offset _ (c.fill_item.ensures ∙ ap (λ size. padded size (item_header c.args.stamp key value ++ key ++ value)) (grind (arith, common_steps))) (c.fill_item.auto.slot ∙ grind (arith, common_steps))
+    part_put c.args.page.now c.fill_item.new.slot _ c.args.offset _ (c.fill_item.ensures
+    ∙ ap (λ size. padded size (item_header c.args.stamp key value ++ key ++ value))
+    (grind (arith, common_steps))) (c.fill_item.auto.slot ∙ grind (arith, common_steps))

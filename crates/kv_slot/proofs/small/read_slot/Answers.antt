@@ -10,6 +10,13 @@ pub returns : goal.returns
 returns c =
     let class = c.args.class in
     let left = drop c.args.offset c.args.page.now in
-    let fits : slot_size class ≤ length left = omega (arith, length-drop c.args.offset c.args.page.now, c.told-page, c.requires.within) in
+    let fits : slot_size class ≤ length left =
+    omega (
+      arith,
+      length-drop c.args.offset c.args.page.now,
+      c.told-page,
+      c.requires.within,
+    ) in
     c.of_least_class.ensures ∙ ap (of_least_class class) c.read_fitting.ensures
-    ∙ sym (read_of_least class (take (slot_size class) left) (length-take-le (slot_size class) left fits ∙ sym (room_of_small class c.requires.class.1)))
+    ∙ sym (read_of_least class (take (slot_size class) left) (length-take-le (slot_size class) left
+    fits ∙ sym (room_of_small class c.requires.class.1)))

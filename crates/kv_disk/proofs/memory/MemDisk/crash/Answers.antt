@@ -5,9 +5,14 @@ use Rattle.kv_disk.specs.Memory.{Tape, image_of, choices_of, crashed}
 use Rattle.kv_disk.proofs.SettledLemmas.{crash_may_leave}
 use Rattle.kv_disk.proofs.memory.MemDisk.crash.Goals as goal
 
-left : {E : Type 0} (disk : Tape) (t : ℕ) (choice : List ℕ) (result : Result Tape E) → IfOk result (λ after. after ≡ crashed disk t choice) → IfOk result (λ after. MayLeave (choices_of disk t) (image_of after))
-left disk t choice (Ok after) is = let Q : Tape → Type 0 = λ d. MayLeave (choices_of disk t) (image_of d) in subst Q (sym is) (crash_may_leave disk t choice)
+left : {E : Type 0} (disk : Tape) (t : ℕ) (choice : List ℕ) (result : Result Tape E)
+    → IfOk result (λ after. after ≡ crashed disk t choice)
+    → IfOk result (λ after. MayLeave (choices_of disk t) (image_of after))
+left disk t choice (Ok after) is =
+    let Q : Tape → Type 0 = λ d. MayLeave (choices_of disk t) (image_of d) in
+    subst Q (sym is) (crash_may_leave disk t choice)
 left disk t choice (Err e) is = tt
 
 pub returns-clause-left : goal.returns-clause-left
-returns-clause-left c = left c.args.self.now c.args.moment c.args.choice.now c.replay.result c.replay.ensures
+returns-clause-left c = left c.args.self.now c.args.moment c.args.choice.now c.replay.result
+    c.replay.ensures

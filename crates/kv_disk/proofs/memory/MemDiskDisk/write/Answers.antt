@@ -3,7 +3,8 @@ use Rattle.kv_disk.proofs.TapeLemmas.{writes-written, writes-seen, writes-crash,
 use Rattle.kv_disk.proofs.memory.MemDiskDisk.write.Goals as goal
 
 pub returns-clause-written : goal.returns-clause-written
-returns-clause-written c _ = writes-written _ _ _ _ _ c.put.result c.put.ensures.writes c.put.ensures.tape
+returns-clause-written c _ = writes-written _ _ _ _ _ c.put.result c.put.ensures.writes
+    c.put.ensures.tape
 
 pub returns-clause-seen : goal.returns-clause-seen
 returns-clause-seen c _ = writes-seen _ _ _ _ _ c.put.result c.put.ensures.writes c.put.ensures.tape

@@ -44,8 +44,11 @@ invariant_of-self-in-Err c =
     let some =
     rw (← c.self.view_is, get_gap _ _ _ c.self.invariant.rising gap) at c.requires.room in
     let few =
-    rw
-    (← c.self.view_is, get_gap _ _ _ c.self.invariant.rising gap, len_is _ c.self.invariant.rising) at c.requires.few in
+    rw (
+      ← c.self.view_is,
+      get_gap _ _ _ c.self.invariant.rising gap,
+      len_is _ c.self.invariant.rising,
+    ) at c.requires.few in
     record {
       rising =
           rw c.insert_within.ensures.items

@@ -16,10 +16,13 @@ pub returns-in-Ok-clause-step : goal.returns-in-Ok-clause-step
 returns-in-Ok-clause-step g c =
     let good : refusal_of (only_class 7) (Get c.args.key.now) ≡ None = search rules in
     let unclosed : c.args.self.now.closed ≡ false = search rules in
-    steps_read _ _ c.args.key.now c.in-Some.page c.read.new.buf _ good unclosed (sym c.in-Some.ensures) refl c.read.ensures.seen refl refl (λ t. c.in-Ok.ensures.content t) c.read.ensures.cause.later c.read.ensures.past.counted c.found.ensures.value
+    steps_read _ _ c.args.key.now c.in-Some.page c.read.new.buf _ good unclosed
+    (sym c.in-Some.ensures) refl c.read.ensures.seen refl refl (λ t. c.in-Ok.ensures.content t)
+    c.read.ensures.cause.later c.read.ensures.past.counted c.found.ensures.value
 
 pub returns-in-Err-clause-step : goal.returns-in-Err-clause-step
 returns-in-Err-clause-step g c =
     let good : refusal_of (only_class 7) (Get c.args.key.now) ≡ None = search rules in
     let unclosed : c.args.self.now.closed ≡ false = search rules in
-    steps_read_failed _ _ c.args.key.now good unclosed refl c.read.ensures.seen refl refl c.in-Err.ensures.cause.failed c.read.ensures.past.counted
+    steps_read_failed _ _ c.args.key.now good unclosed refl c.read.ensures.seen refl refl
+    c.in-Err.ensures.cause.failed c.read.ensures.past.counted

@@ -8,7 +8,8 @@ loop-folder-init c =
     let all : c.loop-file.file ≡ 14 = omega arith in
     record {
       files = c.loop-file.invariant.files;
-      synced = sym (take_all c.loop-file.file c.loop-file.self-inside.unsynced (omega arith)) ∙ c.loop-file.invariant.synced ∙ ap (λ (n : ℕ). replicate n false) all;
+      synced = sym (take_all c.loop-file.file c.loop-file.self-inside.unsynced (omega arith))
+          ∙ c.loop-file.invariant.synced ∙ ap (λ (n : ℕ). replicate n false) all;
       calls = c.loop-file.invariant.calls;
       faults = c.loop-file.invariant.faults;
     }

@@ -7,5 +7,7 @@ pub returns-clause-taken : goal.returns-clause-taken
 returns-clause-taken c told =
     if_ok-from c.end.result c.if-begin.taken _ c.end.ensures.ok (elim c.if-begin.branch [
       | then-begin w ↦ rw w.taken-is tt
-      | else-begin w ↦ rw (w.taken-is, w.self-inside-is, ← c.self.view_is) (if_some-map w.take-taken.result _ _ (λ ends takes. takes_session _ _ _ _ _ c.args.number ends takes) w.take-taken.ensures.some)
+      | else-begin w ↦ rw (w.taken-is, w.self-inside-is, ← c.self.view_is)
+          (if_some-map w.take-taken.result _ _ (λ ends takes. takes_session _ _ _ _ _ c.args.number
+          ends takes) w.take-taken.ensures.some)
     ])

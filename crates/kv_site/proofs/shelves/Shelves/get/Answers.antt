@@ -6,8 +6,13 @@ use Rattle.kv_site.proofs.shelves.Shelves.get.Goals as goal
 
 pub returns-in-Some : goal.returns-in-Some
 returns-in-Some g c =
-    let first = is_first (is_at c.args.folder.now c.args.number) c.args.self.now.shelves.items c.in-Some.at c.index.result.now (sym c.find.ensures ∙ c.in-Some.is) c.index.ensures in
-    c.as_ref.ensures.value ∙ sym (thing_at-first c.args.folder.now c.args.number c.args.self.now.shelves.items c.in-Some.at c.index.result.now first)
+    let first = is_first (is_at c.args.folder.now c.args.number) c.args.self.now.shelves.items
+    c.in-Some.at c.index.result.now (sym c.find.ensures ∙ c.in-Some.is) c.index.ensures in
+    c.as_ref.ensures.value
+    ∙ sym (thing_at-first c.args.folder.now c.args.number c.args.self.now.shelves.items
+    c.in-Some.at c.index.result.now first)
 
 pub returns-in-None : goal.returns-in-None
-returns-in-None g c = sym (thing_at-none c.args.folder.now c.args.number c.args.self.now.shelves.items (none_pass _ _ (sym c.find.ensures ∙ c.in-None.is)))
+returns-in-None g c =
+    sym (thing_at-none c.args.folder.now c.args.number c.args.self.now.shelves.items
+    (none_pass _ _ (sym c.find.ensures ∙ c.in-None.is)))

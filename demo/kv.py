@@ -130,7 +130,7 @@ REPLIES = {
 }
 
 STATUSES = {
-    1: "The session ended early: a put is unsure, or its input or output failed. The lines above tell which.",
+    1: "A put is unsure or bytes were no request, as a line above says; else the session's input or output failed.",
     2: "kvell didn't take its words: DIR is not empty, and begins with - only where it is - alone.",
     3: "The store can't be made: the folder above DIR isn't there, DIR has a store, or its disk failed.",
     4: "There was no memory to begin with.",
@@ -222,7 +222,7 @@ class Session:
         self.reader.join()
         status = self.process.wait()
         if self.waiting:
-            print(f"{len(self.waiting)} commands were not answered.", file=sys.stderr)
+            print(f"Commands that were not answered: {len(self.waiting)}.", file=sys.stderr)
         if status < 0:
             print(f"kvell was ended by the signal {-status}.", file=sys.stderr)
             return 1

@@ -1,5 +1,5 @@
 ghost use Rattle.std.specs.Prelude.{◌≡◌, ◌≤◌, [], Some, None, true, false, IfOk, OnOk, OnErr, if◌then◌else◌};
-ghost use Rattle.kv_cache.specs.Kept.{IsKept, content_of, without, to_front, renewed, with_new};
+ghost use Rattle.kv_cache.specs.Kept.{IsKept, with_pages, content_of, without, to_front, renewed, with_new};
 
 use kv_base::NoMemory;
 use lru::LruCache;
@@ -53,7 +53,7 @@ impl KeptPages {
     /// Copies the content of a page that is kept, which comes to the front, and answers whether it is.
     pub fn copy(&mut self, file: u8, page: u32, out: &mut [u8; 4096]) -> bool
         ensures content { content_of self.old.pages file page ≡ (if result then Some out.new else None) }
-        ensures pages { self.new ≡ record self.old { pages = if result then to_front self.old.pages file page out.new else self.old.pages } }
+        ensures pages { self.new ≡ (if result then with_pages self.old (to_front self.old.pages file page out.new) else self.old) }
     {
         let Some(content) = self.copies.get(&(file, page)) else {
             return false;
@@ -66,7 +66,7 @@ impl KeptPages {
     /// is want of memory, and then all stays as before.
     pub fn keep(&mut self, file: u8, page: u32, content: &[u8; 4096]) -> Result<(), NoMemory>
         requires { content_of self.old.pages file page ≡ None }
-        ensures ok { OnOk result (self.new ≡ record self.old { pages = with_new self.old.capacity self.old.pages file page content.now }) }
+        ensures ok { OnOk result (self.new ≡ with_pages self.old (with_new self.old.capacity self.old.pages file page content.now)) }
         ensures err { OnErr result (self.new ≡ self.old) }
     {
         let copy = copied(self.alloc, self.spare.take(), content)?;
@@ -90,7 +90,7 @@ impl KeptPages {
 
     /// Gives a page that is kept this content and moves it to the front.
     pub fn renew(&mut self, file: u8, page: u32, content: &[u8; 4096])
-        ensures { self.new ≡ record self.old { pages = renewed self.old.pages file page content.now } }
+        ensures { self.new ≡ with_pages self.old (renewed self.old.pages file page content.now) }
     {
         let Some(copy) = self.copies.get_mut(&(file, page)) else {
             return;
@@ -100,7 +100,7 @@ impl KeptPages {
 
     /// Drops a page.
     pub fn remove(&mut self, file: u8, page: u32)
-        ensures { self.new ≡ record self.old { pages = without self.old.pages file page } }
+        ensures { self.new ≡ with_pages self.old (without self.old.pages file page) }
     {
         let _ = self.copies.pop(&(file, page));
     }

@@ -217,7 +217,8 @@ fn copy_page<D: Disk>(cache: &mut Cached<D>, file: u8, from: u32, to: u32) -> Re
     requires durable { Only (D.seen cache.old.disk) (D.leaves cache.old.disk (D.calls cache.old.disk)) }
     ensures written { IsTrue D.tells → OnOk result (D.seen cache.new.disk ≡ with_page (D.seen cache.old.disk) file to (D.seen cache.old.disk file from)) }
     ensures durable { OnOk result (Only (D.seen cache.new.disk) (D.leaves cache.new.disk (D.calls cache.new.disk))) }
-    ensures any_moment { LeavesOnly (D.calls cache.old.disk) (D.calls cache.new.disk) (D.leaves cache.old.disk) (D.leaves cache.new.disk) (λ image. (image ≡ D.seen cache.old.disk) ⊎ (image ≡ with_page (D.seen cache.old.disk) file to (D.seen cache.old.disk file from))) }
+    ensures any_moment { let copy = with_page (D.seen cache.old.disk) file to (D.seen cache.old.disk file from) in
+        LeavesOnly (D.calls cache.old.disk) (D.calls cache.new.disk) (D.leaves cache.old.disk) (D.leaves cache.new.disk) (λ image. (image ≡ D.seen cache.old.disk) ⊎ (image ≡ copy)) }
     ensures cause { HasCause (D.faults cache.old.disk) (D.faults cache.new.disk) result }
 {
     let mut content = [0; 4096];
@@ -226,8 +227,8 @@ fn copy_page<D: Disk>(cache: &mut Cached<D>, file: u8, from: u32, to: u32) -> Re
     cache.sync()
 }
 
-// Copies page 1 over page 0 of an empty disk on which page 1 was set.
-fn copied<D: Disk>(cache: &mut Cached<D>) -> Result<[u8; 2], Failed>
+// Copies page 1 over page 0 twice, and reads both.
+fn copied_twice<D: Disk>(cache: &mut Cached<D>) -> Result<[u8; 2], Failed>
     requires { Only (D.seen cache.old.disk) (D.leaves cache.old.disk (D.calls cache.old.disk)) }
 {
     copy_page(cache, 13, 1, 0)?;
@@ -241,7 +242,7 @@ fn a_page_is_copied(rt: HostRuntime) -> Result<(), Fail> {
     let mut disk = MemDisk::new(alloc, 2, 9, Calls::none())?;
     assert!(rt; disk.set_page(13, 1, &[5; 4096]));
     let mut cache = cached(alloc, disk, 2)?;
-    assert_eq!(rt; copied(&mut cache)?, [5, 5]);
+    assert_eq!(rt; copied_twice(&mut cache)?, [5, 5]);
     assert_eq!(rt;
         cache.into_disk().calls(),
         6,

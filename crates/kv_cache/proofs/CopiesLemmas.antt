@@ -1,5 +1,6 @@
 -- What the map of least recent use does, in the words of lists of kept pages.
-use Rattle.std.proofs.Common.{◌≡◌, ℕ, zero, suc, ◌-◌, ◌≤◌, Bool, true, false, cond, not, List, [], ◌∷◌, map, take}
+use Rattle.std.proofs.Common.{◌≡◌, ℕ, zero, suc, ◌-◌, ◌≤◌, Bool, true, false, cond, not, List, []}
+use Rattle.std.proofs.Common.{◌∷◌, map, take}
 use Rattle.std.proofs.Common.{Option, None, Some, refl, sym, ◌∙◌, ap, subst₂, eqb, arith}
 use Rattle.std.specs.Prelude.{◌&&◌, option_map}
 use Rattle.std.specs.Global.{Box}
@@ -7,7 +8,8 @@ use Rattle.std.specs.Map.{lookup, lookup_entry, remove_entry, set_value}
 use Rattle.std.proofs.lemmas.Bool.{and_parts, and_from, eqb-true, eq-eqb}
 use Rattle.std.proofs.lemmas.List.{take-map}
 use Rattle.lru.specs.LruCache.{LruCache, lru_cache, promoted, put_entries}
-use Rattle.kv_cache.specs.Kept.{KeptPage, kept_page, content_of, without, to_front, with_new, with_pages}
+use Rattle.kv_cache.specs.Kept.{KeptPage, kept_page, content_of, without, to_front, with_new}
+use Rattle.kv_cache.specs.Kept.{with_pages}
 use Rattle.kv_cache.specs.Kept.{AreApart, IsKept}
 use Rattle.kv_cache.specs.Copies.{page_of, kept_of}
 use Rattle.kv_cache.proofs.KeptLemmas.{without-absent}
@@ -32,7 +34,8 @@ content_in copy = option_map (λ c. c.value) copy
 abbrev finds : ℕ → ℕ → ℕ × ℕ → Bool
 finds f p key = eqb f key.0 && eqb p key.1
 
-take-front : {A : Type 0} (n : ℕ) (x : A) (xs : List A) → 1 ≤ n → take n (x ∷ xs) ≡ x ∷ take (n - 1) xs
+take-front : {A : Type 0} (n : ℕ) (x : A) (xs : List A) → 1 ≤ n
+    → take n (x ∷ xs) ≡ x ∷ take (n - 1) xs
 take-front zero x xs least = absurd (omega arith)
 take-front (suc n) x xs least = let e : n ≡ suc n - 1 = omega arith in ap (λ m. x ∷ take m xs) e
 
@@ -47,7 +50,8 @@ module _ (f p : ℕ) where
       (eqb-true f key.0 both.0, eqb-true p key.1 both.1)
 
   -- what is kept of the page is what a look-up finds
-  content_of-lookup : (es : Entries) → content_of (pages_of es) f p ≡ content_in (lookup (finds f p) es)
+  content_of-lookup : (es : Entries) → content_of (pages_of es) f p
+      ≡ content_in (lookup (finds f p) es)
   content_of-lookup [] = refl
   content_of-lookup (e ∷ es) =
       let same : Bool → Type 0 =
@@ -95,7 +99,8 @@ module _ (f p : ℕ) where
       ]) refl found
 
   -- and one that finds none finds no entry
-  lookup_entry-absent : (es : Entries) → lookup (finds f p) es ≡ None → lookup_entry (finds f p) es ≡ None
+  lookup_entry-absent : (es : Entries) → lookup (finds f p) es ≡ None → lookup_entry (finds f p) es
+      ≡ None
   lookup_entry-absent [] absent = refl
   lookup_entry-absent (e ∷ es) absent =
       let none : Bool → Type 0 =
@@ -119,7 +124,8 @@ module _ (f p : ℕ) where
     content_of-absent absent = content_of-lookup copies.entries ∙ ap content_in absent
 
     -- and where nothing is kept, it finds none
-    lookup-absent : content_of (kept_of copies).pages f p ≡ None → lookup (finds f p) copies.entries ≡ None
+    lookup-absent : content_of (kept_of copies).pages f p ≡ None → lookup (finds f p) copies.entries
+        ≡ None
     lookup-absent absent =
         let same = sym (content_of-lookup copies.entries) ∙ absent in
         (elim (lookup (finds f p) copies.entries) as (λ o. content_in o ≡ None → o ≡ None) [
@@ -129,7 +135,8 @@ module _ (f p : ℕ) where
 
     -- a look-up of a page that isn't kept leaves the list
     pub kept_of-missed : (new : LruCache (ℕ × ℕ) Copy) → lookup (finds f p) copies.entries ≡ None
-        → new ≡ lru_cache (promoted (finds f p) copies.entries) copies.cap → kept_of new ≡ kept_of copies
+        → new ≡ lru_cache (promoted (finds f p) copies.entries) copies.cap
+        → kept_of new ≡ kept_of copies
     kept_of-missed new absent got = rw (got, lookup_entry-absent copies.entries absent) refl
 
     -- the entries behind the page's own, which is in front
@@ -151,7 +158,8 @@ module _ (f p : ℕ) where
     -- and what is written there is kept
     pub kept_of-written : (copy new : Copy) → IsKept (kept_of copies)
         → lookup (finds f p) copies.entries ≡ Some copy
-        → kept_of (lru_cache (set_value (finds f p) (promoted (finds f p) copies.entries) new) copies.cap)
+        → kept_of (lru_cache (set_value (finds f p) (promoted (finds f p) copies.entries) new)
+        copies.cap)
         ≡ with_pages (kept_of copies) (to_front (kept_of copies).pages f p new.value)
     kept_of-written copy new is found =
         rw (lookup_entry-found copies.entries copy found, finds-here)
@@ -167,7 +175,8 @@ module _ (f p : ℕ) where
     pub kept_of-put : (new : LruCache (ℕ × ℕ) Copy) (copy : Copy) → IsKept (kept_of copies)
         → content_of (kept_of copies).pages f p ≡ None
         → new ≡ lru_cache (put_entries (λ k key. finds k.0 k.1 key) copies (f, p) copy) copies.cap
-        → kept_of new ≡ with_pages (kept_of copies) (with_new copies.cap (kept_of copies).pages f p copy.value)
+        → kept_of new ≡ with_pages (kept_of copies) (with_new copies.cap (kept_of copies).pages f p
+        copy.value)
     kept_of-put new copy is absent put =
         let page = page_of ((f, p), copy) in
         let front = take-front copies.cap page (pages_of copies.entries) is.least in

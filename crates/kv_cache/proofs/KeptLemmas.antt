@@ -1,6 +1,8 @@
 -- Lemmas on lists of kept pages.
-use Rattle.std.proofs.Common.{◌≡◌, ℕ, zero, suc, ◌+◌, ◌≤◌, Bool, true, false, cond, not, List, [], ◌∷◌, length, take}
-use Rattle.std.proofs.Common.{Option, None, Some, inl, inr, refl, sym, ◌∙◌, ap, subst, subst₂, eqb, arith}
+use Rattle.std.proofs.Common.{◌≡◌, ℕ, zero, suc, ◌+◌, ◌≤◌, Bool, true, false, cond, not, List, []}
+use Rattle.std.proofs.Common.{◌∷◌, length, take}
+use Rattle.std.proofs.Common.{Option, None, Some, inl, inr, refl, sym, ◌∙◌, ap, subst, subst₂, eqb}
+use Rattle.std.proofs.Common.{arith}
 use Rattle.std.specs.Prelude.{is_some}
 use Rattle.std.proofs.lemmas.Bool.{and_parts, and_from, eqb-true, eq-eqb}
 use Rattle.kv_base.specs.Image.{Image, with_page}
@@ -24,7 +26,8 @@ content_of-take_absent zero pages g q absent = refl
 content_of-take_absent (suc n) [] g q absent = refl
 content_of-take_absent (suc n) (kept ∷ pages) g q absent =
     let cut : Bool → Type 0 =
-    λ b. or_else b kept (content_of pages g q) ≡ None → or_else b kept (content_of (take n pages) g q) ≡ None
+    λ b. or_else b kept (content_of pages g q) ≡ None
+    → or_else b kept (content_of (take n pages) g q) ≡ None
     in
     (elim (is_at g q kept) as cut [
       | true ↦ λ h. h
@@ -52,11 +55,13 @@ agree-take image (suc n) (kept ∷ pages) agree = (agree.0, agree-take image n p
 
 module _ (f p : ℕ) where
   -- where nothing is kept of a page, the pages but this one are all
-  pub without-absent : (pages : List KeptPage) → content_of pages f p ≡ None → without pages f p ≡ pages
+  pub without-absent : (pages : List KeptPage) → content_of pages f p ≡ None
+      → without pages f p ≡ pages
   without-absent [] absent = refl
   without-absent (kept ∷ pages) absent =
       let all : Bool → Type 0 =
-      λ b. or_else b kept (content_of pages f p) ≡ None → unless b kept (without pages f p) ≡ kept ∷ pages
+      λ b. or_else b kept (content_of pages f p) ≡ None → unless b kept (without pages f p)
+      ≡ kept ∷ pages
       in
       (elim (is_at f p kept) as all [
         | true ↦ λ h. cc
@@ -82,7 +87,8 @@ module _ (f p : ℕ) where
   content_of-without_absent (kept ∷ pages) g q absent =
       let inner : Bool → Type 0 = λ b. content_of (unless b kept (without pages f p)) g q ≡ None in
       let outer : Bool → Type 0 =
-      λ b. is_at g q kept ≡ b → or_else b kept (content_of pages g q) ≡ None → inner (is_at f p kept)
+      λ b. is_at g q kept ≡ b → or_else b kept (content_of pages g q) ≡ None
+      → inner (is_at f p kept)
       in
       (elim (is_at g q kept) as outer [
         | true ↦ λ at h. cc
@@ -109,7 +115,8 @@ module _ (f p : ℕ) where
   length-without [] = omega arith
   length-without (kept ∷ pages) =
       let rest = length-without pages in
-      elim (is_at f p kept) as (λ b. length (unless b kept (without pages f p)) ≤ length (kept ∷ pages)) [
+      elim (is_at f p kept) as (λ b. length (unless b kept (without pages f p))
+      ≤ length (kept ∷ pages)) [
         | true ↦ omega (arith, rest)
         | false ↦ omega (arith, rest)
       ]
@@ -164,14 +171,16 @@ module _ (f p : ℕ) where
   content_of-agrees image [] content agree found = cc
   content_of-agrees image (kept ∷ pages) content agree found =
       let agrees : Bool → Type 0 =
-      λ b. is_at f p kept ≡ b → or_else b kept (content_of pages f p) ≡ Some content → content ≡ image f p
+      λ b. is_at f p kept ≡ b → or_else b kept (content_of pages f p) ≡ Some content
+      → content ≡ image f p
       in
       (elim (is_at f p kept) as agrees [
         | true ↦ λ at h.
             let both = and_parts (eqb f kept.file) (eqb p kept.page) at in
             let same : kept.content ≡ content = cc in
             let there : ℕ → ℕ → Type 0 = λ m n. image m n ≡ image f p in
-            let place = subst₂ there (eqb-true f kept.file both.0) (eqb-true p kept.page both.1) refl in
+            let place = subst₂ there (eqb-true f kept.file both.0) (eqb-true p kept.page both.1)
+            refl in
             sym same ∙ agree.0 ∙ place
         | false ↦ λ at h. content_of-agrees image pages content agree.1 h
       ]) refl found
@@ -192,14 +201,17 @@ module _ (f p : ℕ) where
   agree-without_put image [] content agree = tt
   agree-without_put image (kept ∷ pages) content agree =
       let agrees : Bool → Type 0 =
-      λ b. is_at f p kept ≡ b → AgreeWith (with_page image f p content) (unless b kept (without pages f p))
+      λ b. is_at f p kept ≡ b
+      → AgreeWith (with_page image f p content) (unless b kept (without pages f p))
       in
       let here : kept.file ≡ f → kept.page ≡ p → is_at f p kept ≡ true = λ same_file same_page.
-      and_from (eqb f kept.file) (eqb p kept.page) (eq-eqb f kept.file (sym same_file)) (eq-eqb p kept.page (sym same_page)) in
+      and_from (eqb f kept.file) (eqb p kept.page) (eq-eqb f kept.file (sym same_file))
+      (eq-eqb p kept.page (sym same_page)) in
       (elim (is_at f p kept) as agrees [
         | true ↦ λ at. agree-without_put image pages content agree.1
         | false ↦ λ at. (
-          agree.0 ∙ sym (with_page-other image f p content kept.file kept.page (λ same_file same_page. absurd (let is = here same_file same_page in cc))),
+          agree.0 ∙ sym (with_page-other image f p content kept.file kept.page
+              (λ same_file same_page. absurd (let is = here same_file same_page in cc))),
           agree-without_put image pages content agree.1,
         )
       ]) refl
@@ -223,7 +235,8 @@ module _ (f p : ℕ) where
   agree-renewed image pages content agree =
       let others = agree-without_put image pages content agree in
       let agrees : Option (List ℕ) → Type 0 = λ o. content_of pages f p ≡ o
-      → AgreeWith (with_page image f p content) (cond (is_some o) (to_front pages f p content) pages) in
+      → AgreeWith (with_page image f p content) (cond (is_some o) (to_front pages f p content)
+      pages) in
       (elim (content_of pages f p) as agrees [
         | Some old ↦ λ found. (sym (with_page-here image f p content), others)
         | None ↦ λ absent.
@@ -232,7 +245,8 @@ module _ (f p : ℕ) where
 
   -- it may have another content, and has no copy
   pub agree-dropped : (image new : Image) (pages : List KeptPage) (content : List ℕ)
-      → AgreeWith image pages → WrittenOrNot f p content image new → AgreeWith new (without pages f p)
+      → AgreeWith image pages → WrittenOrNot f p content image new
+      → AgreeWith new (without pages f p)
   agree-dropped image new pages content agree which = elim which [
     | inl same ↦ rw same (agree-without image pages agree)
     | inr put ↦ rw put (agree-without_put image pages content agree)

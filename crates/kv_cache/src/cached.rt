@@ -1,4 +1,5 @@
-ghost use Rattle.std.specs.Prelude.{◌≡◌, ℕ, ◌+◌, ◌-◌, ◌^◌, ◌≤◌, ◌<◌, List, [], None, Some, IsTrue, IfOk, IfErr, OnOk, OnErr};
+ghost use Rattle.std.specs.Prelude.{◌≡◌, ℕ, ◌+◌, ◌-◌, ◌^◌, ◌≤◌, ◌<◌, List, [], None, Some, IsTrue};
+ghost use Rattle.std.specs.Prelude.{IfOk, IfErr, OnOk, OnErr};
 ghost use Rattle.kv_base.specs.Fault.{HasCause};
 ghost use Rattle.kv_base.specs.Image.{zero_page, with_page};
 ghost use Rattle.kv_disk.specs.Disk.{Only, NoMore, Same, Adds, WrittenOrNot, Advances};
@@ -29,17 +30,27 @@ impl<D: Disk> Model for Cached<D> {
 
     ghost Value = { Cache D };
 
-    ghost view = { λ c. record { disk = c.disk; capacity = c.kept.capacity; pages = c.kept.pages; unkept = c.unkept } };
+    ghost view = { λ c. record {
+      disk = c.disk;
+      capacity = c.kept.capacity;
+      pages = c.kept.pages;
+      unkept = c.unkept;
+    } };
 
     ghost invariant = { λ c. IsTrue D.tells → AgreeWith (D.seen c.disk) c.kept.pages };
 }
 
 impl<D: Disk> Cached<D> {
-    /// The disk with no page kept, and room for so many, 1 to 1,024. The one error is want of memory,
-    /// and it gives the disk back.
+    /// The disk with no page kept, and room for so many, 1 to 1,024. The one error is want of
+    /// memory, and it gives the disk back.
     pub fn new(alloc: Global, disk: D, pages: u32) -> Result<Cached<D>, (D, NoMemory)>
         requires { (1 ≤ pages) × (pages ≤ 1024) }
-        ensures ok { IfOk result (λ cache. cache ≡ record { disk = disk; capacity = pages; pages = []; unkept = 0 }) }
+        ensures ok { IfOk result (λ cache. cache ≡ record {
+          disk = disk;
+          capacity = pages;
+          pages = [];
+          unkept = 0;
+        }) }
         ensures err { IfErr result (λ e. e.0 ≡ disk) }
     {
         match KeptPages::new(alloc, pages) {
@@ -52,23 +63,29 @@ impl<D: Disk> Cached<D> {
         }
     }
 
-    /// Copies the content of a page to `out`. A page that is kept takes no call of the disk. Any other
-    /// is read, and is kept from then on if there is memory, in the place of the one that was used
-    /// least recently. After `Failed`, which the disk's count of faults shows, `out` holds anything.
+    /// Copies the content of a page to `out`. A page that is kept takes no call of the disk. Any
+    /// other is read, and is kept from then on if there is memory, in the place of the one that was
+    /// used least recently. After `Failed`, which the disk's count of faults shows, `out` holds
+    /// anything.
     pub fn page(&mut self, file: u8, page: u32, out: &mut [u8; 4096]) -> Result<(), Failed>
         requires file { file ≤ 13 }
         requires page { page < 2 ^ 32 - 1 }
         ensures content { IsTrue D.tells → OnOk result (out.new ≡ D.seen self.old.disk file page) }
         ensures seen { IsTrue D.tells → D.seen self.new.disk ≡ D.seen self.old.disk }
-        ensures crash { Same (D.leaves self.old.disk (D.calls self.old.disk)) (D.leaves self.new.disk (D.calls self.new.disk)) }
+        ensures crash { Same (D.leaves self.old.disk (D.calls self.old.disk))
+            (D.leaves self.new.disk (D.calls self.new.disk)) }
         ensures cause { HasCause (D.faults self.old.disk) (D.faults self.new.disk) result }
 
         // a page that is kept
-        ensures hit { (content : List ℕ) → content_of self.old.pages file page ≡ Some content → Hits file page content out.new self.old self.new result }
+        ensures hit { (content : List ℕ) → content_of self.old.pages file page ≡ Some content
+            → Hits file page content out.new self.old self.new result }
 
         // any other
-        ensures past { content_of self.old.pages file page ≡ None → Advances (D.calls self.old.disk) (D.calls self.new.disk) (D.leaves self.old.disk) (D.leaves self.new.disk) }
-        ensures ok { content_of self.old.pages file page ≡ None → OnOk result (KeepsOrCounts file page out.new self.old self.new) }
+        ensures past { content_of self.old.pages file page ≡ None
+            → Advances (D.calls self.old.disk) (D.calls self.new.disk) (D.leaves self.old.disk)
+            (D.leaves self.new.disk) }
+        ensures ok { content_of self.old.pages file page ≡ None
+            → OnOk result (KeepsOrCounts file page out.new self.old self.new) }
         ensures err { OnErr result (self.new ≡ record self.old { disk = self.new.disk }) }
     {
         if self.kept.copy(file, page, out) {
@@ -81,20 +98,32 @@ impl<D: Disk> Cached<D> {
         Ok(())
     }
 
-    /// Writes a page. If it is kept, its copy is renewed, and dropped after `Failed`, which the disk's
-    /// count of faults shows. Takes no memory.
+    /// Writes a page. If it is kept, its copy is renewed, and dropped after `Failed`, which the
+    /// disk's count of faults shows. Takes no memory.
     pub fn write(&mut self, file: u8, page: u32, content: &[u8; 4096]) -> Result<(), Failed>
         requires file { file ≤ 13 }
         requires page { page < 2 ^ 32 - 1 }
-        ensures written { IsTrue D.tells → OnOk result (D.seen self.new.disk ≡ with_page (D.seen self.old.disk) file page content.now) }
-        ensures seen { IsTrue D.tells → WrittenOrNot file page content.now (D.seen self.old.disk) (D.seen self.new.disk) }
-        ensures crash { Adds file page content.now result (D.leaves self.old.disk (D.calls self.old.disk)) (D.leaves self.new.disk (D.calls self.new.disk)) }
-        ensures past { Advances (D.calls self.old.disk) (D.calls self.new.disk) (D.leaves self.old.disk) (D.leaves self.new.disk) }
+        ensures written { IsTrue D.tells
+            → OnOk result (D.seen self.new.disk ≡ with_page (D.seen self.old.disk) file page
+            content.now) }
+        ensures seen { IsTrue D.tells → WrittenOrNot file page content.now (D.seen self.old.disk)
+            (D.seen self.new.disk) }
+        ensures crash { Adds file page content.now result
+            (D.leaves self.old.disk (D.calls self.old.disk))
+            (D.leaves self.new.disk (D.calls self.new.disk)) }
+        ensures past { Advances (D.calls self.old.disk) (D.calls self.new.disk)
+            (D.leaves self.old.disk) (D.leaves self.new.disk) }
         ensures cause { HasCause (D.faults self.old.disk) (D.faults self.new.disk) result }
 
         // the pages
-        ensures ok { OnOk result (self.new ≡ record self.old { disk = self.new.disk; pages = renewed self.old.pages file page content.now }) }
-        ensures err { OnErr result (self.new ≡ record self.old { disk = self.new.disk; pages = without self.old.pages file page }) }
+        ensures ok { OnOk result (self.new ≡ record self.old {
+          disk = self.new.disk;
+          pages = renewed self.old.pages file page content.now;
+        }) }
+        ensures err { OnErr result (self.new ≡ record self.old {
+          disk = self.new.disk;
+          pages = without self.old.pages file page;
+        }) }
     {
         match self.disk.write(file, page, content) {
             Ok(()) => {
@@ -112,10 +141,14 @@ impl<D: Disk> Cached<D> {
     /// stands as before.
     pub fn sync(&mut self) -> Result<(), Failed>
         ensures seen { IsTrue D.tells → D.seen self.new.disk ≡ D.seen self.old.disk }
-        ensures durable { OnOk result (Only (D.seen self.new.disk) (D.leaves self.new.disk (D.calls self.new.disk))) }
-        ensures undone { OnErr result (Same (D.leaves self.old.disk (D.calls self.old.disk)) (D.leaves self.new.disk (D.calls self.new.disk))) }
-        ensures crash { NoMore (D.leaves self.old.disk (D.calls self.old.disk)) (D.leaves self.new.disk (D.calls self.new.disk)) }
-        ensures past { Advances (D.calls self.old.disk) (D.calls self.new.disk) (D.leaves self.old.disk) (D.leaves self.new.disk) }
+        ensures durable { OnOk result (Only (D.seen self.new.disk)
+            (D.leaves self.new.disk (D.calls self.new.disk))) }
+        ensures undone { OnErr result (Same (D.leaves self.old.disk (D.calls self.old.disk))
+            (D.leaves self.new.disk (D.calls self.new.disk))) }
+        ensures crash { NoMore (D.leaves self.old.disk (D.calls self.old.disk))
+            (D.leaves self.new.disk (D.calls self.new.disk)) }
+        ensures past { Advances (D.calls self.old.disk) (D.calls self.new.disk)
+            (D.leaves self.old.disk) (D.leaves self.new.disk) }
         ensures cause { HasCause (D.faults self.old.disk) (D.faults self.new.disk) result }
         ensures kept { self.new ≡ record self.old { disk = self.new.disk } }
     {
@@ -126,10 +159,13 @@ impl<D: Disk> Cached<D> {
     /// the disk's count of faults.
     pub fn length(&mut self, file: u8) -> Result<u32, Failed>
         requires { file ≤ 13 }
-        ensures rest { IsTrue D.tells → IfOk result (λ pages. (p : ℕ) → pages ≤ p → D.seen self.old.disk file p ≡ zero_page) }
+        ensures rest { IsTrue D.tells → IfOk result (λ pages. (p : ℕ) → pages ≤ p
+            → D.seen self.old.disk file p ≡ zero_page) }
         ensures seen { IsTrue D.tells → D.seen self.new.disk ≡ D.seen self.old.disk }
-        ensures crash { Same (D.leaves self.old.disk (D.calls self.old.disk)) (D.leaves self.new.disk (D.calls self.new.disk)) }
-        ensures past { Advances (D.calls self.old.disk) (D.calls self.new.disk) (D.leaves self.old.disk) (D.leaves self.new.disk) }
+        ensures crash { Same (D.leaves self.old.disk (D.calls self.old.disk))
+            (D.leaves self.new.disk (D.calls self.new.disk)) }
+        ensures past { Advances (D.calls self.old.disk) (D.calls self.new.disk)
+            (D.leaves self.old.disk) (D.leaves self.new.disk) }
         ensures cause { HasCause (D.faults self.old.disk) (D.faults self.new.disk) result }
         ensures kept { self.new ≡ record self.old { disk = self.new.disk } }
     {

@@ -1,5 +1,7 @@
-ghost use Rattle.std.specs.Prelude.{◌≡◌, ◌≤◌, [], Some, None, true, false, IfOk, OnOk, OnErr, if◌then◌else◌};
-ghost use Rattle.kv_cache.specs.Kept.{IsKept, with_pages, content_of, without, to_front, renewed, with_new};
+ghost use Rattle.std.specs.Prelude.{◌≡◌, ◌≤◌, [], Some, None, true, false, IfOk, OnOk, OnErr};
+ghost use Rattle.std.specs.Prelude.{if◌then◌else◌};
+ghost use Rattle.kv_cache.specs.Kept.{IsKept, with_pages, content_of, without, to_front, renewed};
+ghost use Rattle.kv_cache.specs.Kept.{with_new};
 
 use kv_base::NoMemory;
 use lru::LruCache;
@@ -13,6 +15,7 @@ use std::num::NonZeroUsize;
 pub struct KeptPages {
     alloc: Global,
     copies: LruCache<(u8, u32), Box<[u8; 4096]>>,
+    // The memory of the page that went last, for the next that comes.
     spare: Option<Box<[u8; 4096]>>,
 }
 
@@ -50,10 +53,13 @@ impl KeptPages {
         self.copies.cap().get() as u32
     }
 
-    /// Copies the content of a page that is kept, which comes to the front, and answers whether it is.
+    /// Copies the content of a page that is kept, which comes to the front, and answers whether it
+    /// is.
     pub fn copy(&mut self, file: u8, page: u32, out: &mut [u8; 4096]) -> bool
-        ensures content { content_of self.old.pages file page ≡ (if result then Some out.new else None) }
-        ensures pages { self.new ≡ (if result then with_pages self.old (to_front self.old.pages file page out.new) else self.old) }
+        ensures content { content_of self.old.pages file page ≡ (if result then Some out.new
+            else None) }
+        ensures pages { self.new ≡ (if result
+            then with_pages self.old (to_front self.old.pages file page out.new) else self.old) }
     {
         let Some(content) = self.copies.get(&(file, page)) else {
             return false;
@@ -62,13 +68,15 @@ impl KeptPages {
         true
     }
 
-    /// Puts a page that isn't kept at the front; where it was full, the last one goes. The one error
-    /// is want of memory, and then all stays as before.
+    /// Puts a page that isn't kept at the front; where it was full, the last one goes. The one
+    /// error is want of memory, and then all stays as before.
     pub fn keep(&mut self, file: u8, page: u32, content: &[u8; 4096]) -> Result<(), NoMemory>
         requires { content_of self.old.pages file page ≡ None }
-        ensures ok { OnOk result (self.new ≡ with_pages self.old (with_new self.old.capacity self.old.pages file page content.now)) }
+        ensures ok { OnOk result (self.new
+            ≡ with_pages self.old (with_new self.old.capacity self.old.pages file page content.now)) }
         ensures err { OnErr result (self.new ≡ self.old) }
     {
+        // The copy is made before the list changes, so that want of memory loses no page.
         let copy = copied(self.alloc, self.spare.take(), content)?;
         match self.copies.push((file, page), copy) {
             Ok(Some((_, last))) => {

@@ -214,11 +214,16 @@ fn copy_page<D: Disk>(cache: &mut Cached<D>, file: u8, from: u32, to: u32) -> Re
     requires file { file ≤ 13 }
     requires from { from < 2 ^ 32 - 1 }
     requires to { to < 2 ^ 32 - 1 }
-    requires durable { Only (D.seen cache.old.disk) (D.leaves cache.old.disk (D.calls cache.old.disk)) }
-    ensures written { IsTrue D.tells → OnOk result (D.seen cache.new.disk ≡ with_page (D.seen cache.old.disk) file to (D.seen cache.old.disk file from)) }
-    ensures durable { OnOk result (Only (D.seen cache.new.disk) (D.leaves cache.new.disk (D.calls cache.new.disk))) }
+    requires durable { Only (D.seen cache.old.disk)
+        (D.leaves cache.old.disk (D.calls cache.old.disk)) }
+    ensures written { IsTrue D.tells
+        → OnOk result (D.seen cache.new.disk ≡ with_page (D.seen cache.old.disk) file to
+        (D.seen cache.old.disk file from)) }
+    ensures durable { OnOk result (Only (D.seen cache.new.disk)
+        (D.leaves cache.new.disk (D.calls cache.new.disk))) }
     ensures any_moment { let copy = with_page (D.seen cache.old.disk) file to (D.seen cache.old.disk file from) in
-        LeavesOnly (D.calls cache.old.disk) (D.calls cache.new.disk) (D.leaves cache.old.disk) (D.leaves cache.new.disk) (λ image. (image ≡ D.seen cache.old.disk) ⊎ (image ≡ copy)) }
+        LeavesOnly (D.calls cache.old.disk) (D.calls cache.new.disk) (D.leaves cache.old.disk)
+        (D.leaves cache.new.disk) (λ image. (image ≡ D.seen cache.old.disk) ⊎ (image ≡ copy)) }
     ensures cause { HasCause (D.faults cache.old.disk) (D.faults cache.new.disk) result }
 {
     let mut content = [0; 4096];

@@ -4,7 +4,9 @@ use Rattle.kv_cache.proofs.CopiesLemmas.{kept_of-removed}
 use Rattle.kv_cache.proofs.kept.KeptPages.remove.Goals as goal
 
 pub invariant_of-self : goal.invariant_of-self
-invariant_of-self c = rw (kept_of-removed _ _ _ c.pop.new.self c.self.invariant c.pop.ensures.entries) (kept-without _ _ _ c.self.invariant)
+invariant_of-self c =
+    rw (kept_of-removed _ _ _ c.pop.new.self c.self.invariant c.pop.ensures.entries)
+    (kept-without _ _ _ c.self.invariant)
 
 pub returns : goal.returns
 returns c = rw (← c.self.view_is) (kept_of-removed _ _ _ _ c.self.invariant c.pop.ensures.entries)

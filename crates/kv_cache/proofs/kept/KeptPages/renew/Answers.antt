@@ -5,14 +5,27 @@ use Rattle.kv_cache.proofs.CopiesLemmas.{content_of-found, content_of-absent, ke
 use Rattle.kv_cache.proofs.kept.KeptPages.renew.Goals as goal
 
 pub returns-in_default : goal.returns-in_default
-returns-in_default c = rw (← c.self.view_is, content_of-absent c.args.file c.args.page c.self.inside.copies (sym c.in_default.ensures.value)) refl
+returns-in_default c =
+    rw (
+      ← c.self.view_is,
+      content_of-absent c.args.file c.args.page c.self.inside.copies
+          (sym c.in_default.ensures.value),
+    ) refl
 
 pub invariant_of-self-2 : goal.invariant_of-self-2
 invariant_of-self-2 c =
-    let found = content_of-found c.args.file c.args.page c.self.inside.copies _ (sym c.in-Some.ensures.value) in
-    rw (kept_of-written c.args.file c.args.page c.self.inside.copies _ _ c.self.invariant (sym c.in-Some.ensures.value)) (kept-to_front _ _ _ c.self.invariant _ c.args.content.now found)
+    let found = content_of-found c.args.file c.args.page c.self.inside.copies _
+    (sym c.in-Some.ensures.value) in
+    rw (kept_of-written c.args.file c.args.page c.self.inside.copies _ _ c.self.invariant
+    (sym c.in-Some.ensures.value)) (kept-to_front _ _ _ c.self.invariant _ c.args.content.now
+    found)
 
 pub returns : goal.returns
 returns c =
-    rw (← c.self.view_is, content_of-found c.args.file c.args.page c.self.inside.copies _ (sym c.in-Some.ensures.value))
-    (kept_of-written c.args.file c.args.page c.self.inside.copies _ _ c.self.invariant (sym c.in-Some.ensures.value))
+    rw (
+      ← c.self.view_is,
+      content_of-found c.args.file c.args.page c.self.inside.copies _
+          (sym c.in-Some.ensures.value),
+    )
+    (kept_of-written c.args.file c.args.page c.self.inside.copies _ _ c.self.invariant
+    (sym c.in-Some.ensures.value))

@@ -1,7 +1,7 @@
 -- Lemmas on whole runs of the plain store.
 use Rattle.std.proofs.Common.{◌≡◌, ◌≢◌, ℕ, ◌+◌, ◌<◌, ◌≤◌, ◌^◌, Bool, true, false, List, []}
 use Rattle.std.proofs.Common.{◌∷◌, ◌++◌, map, Option, None, Some, IfSome, MatchOption, refl}
-use Rattle.std.proofs.Common.{ap, subst, ◌∙◌, arith, append_assoc, ◌||◌}
+use Rattle.std.proofs.Common.{sym, ap, subst, ◌∙◌, arith, append_assoc, ◌||◌}
 use Rattle.std.specs.List.{AllByRecursion, cons_option}
 use Rattle.std.specs.Option.{option_to_list}
 use Rattle.std.proofs.lemmas.List.{append-nil}
@@ -20,7 +20,7 @@ use Rattle.kv_model.specs.Agreement.{IsAnswer, IsMapAnswer, refusal_of}
 use Rattle.kv_model.specs.Order.{IsAfter, Rises}
 use Rattle.kv_serve.specs.Causes.{RoseBy, is_unsure, any_unsure, faults_told, faults_of}
 use Rattle.kv_serve.specs.Causes.{ClosesBehindUnsure, AreFullAtLimit}
-use Rattle.kv_serve.specs.Store.{Holds, Steps}
+use Rattle.kv_serve.specs.Store.{Holds, Steps, IsDurable}
 use Rattle.kv_serve.specs.Run.{Runs}
 use Rattle.kv_serve.specs.Answers.{HasAnswers}
 use Rattle.kv_serve.specs.declared.store.Store.{Store}
@@ -262,6 +262,10 @@ or_false : (b : Bool) → b ≡ (b || false)
 or_false true = refl
 or_false false = refl
 
+or_left : (a b : Bool) → (a || b) ≡ false → a ≡ false
+or_left true b e = e
+or_left false b e = refl
+
 or_assoc : (a b c : Bool) → ((a || b) || c) ≡ (a || (b || c))
 or_assoc true b c = refl
 or_assoc false b c = refl
@@ -336,6 +340,15 @@ module _ {D : Type 0} {d : Ghosts D} where
   run_unsure [] old new runs = ap (λ store. store.closed) runs ∙ or_false old.closed
   run_unsure (pair ∷ pairs) old new runs = run_unsure pairs runs.0 new runs.2
       ∙ rw runs.1.closing (or_assoc old.closed (is_unsure pair.reply) (any_unsure pairs))
+
+  -- a store that is open at the end has a disk that is durable, where it was at the start
+  pub run_durable : (pairs : List Pair) (old new : Store D d) → Runs Steps old pairs new
+      → new.closed ≡ false → IsDurable d old.disk → IsDurable d new.disk
+  run_durable [] old new runs unclosed h = rw runs h
+  run_durable (pair ∷ pairs) old new runs unclosed h =
+      let between = or_left runs.0.closed (any_unsure pairs)
+      (sym (run_unsure pairs runs.0 new runs.2) ∙ unclosed) in
+      run_durable pairs runs.0 new runs.2 unclosed (runs.1.durable between h)
 
   -- a run of a new store has its answers
   pub run_has_answers : (before : D) (pairs : List Pair) (old new : Store D d) → Holds old []

@@ -27,7 +27,8 @@ use Rattle.kv_serve.specs.Placed.{IsPlaced, GivesPage, HasPlaces}
 use Rattle.kv_serve.specs.Content.{ReadsAs, IsFoundIn}
 use Rattle.kv_serve.specs.Causes.{RoseBy, is_unsure, faults_told, IsFullAtLimit}
 use Rattle.kv_serve.specs.Causes.{slot_limit, last_value, HasNoSlot}
-use Rattle.kv_serve.specs.Store.{Keeps, Holds, Steps, TakesCalls}
+use Rattle.kv_serve.specs.Store.{Keeps, Holds, Steps, TakesCalls, IsDurable}
+use Rattle.kv_disk.specs.Disk.{Same}
 use Rattle.kv_serve.specs.declared.store.Store.{Store}
 use Rattle.kv_disk.proofs.ImageLemmas.{with_page-here, with_page-other}
 use Rattle.kv_serve.proofs.HistoryLemmas.{value_at-last, value_at-other}
@@ -126,6 +127,16 @@ below_last : (history : List Write) (write : Write) (n : ℕ)
 below_last [] write n h last = (last, tt)
 below_last (other ∷ history) write n h last = (h.0, below_last history write n h.1 last)
 
+-- a read leaves a disk durable that is
+pub stays_durable : {D : Type 0} (d : Ghosts D) (old new : D)
+    → ((f p : ℕ) (c : List ℕ) → d.leaves old (d.calls old) f p c → IsTrue d.tells)
+    → (IsTrue d.tells → d.seen new ≡ d.seen old)
+    → Same (d.leaves old (d.calls old)) (d.leaves new (d.calls new))
+    → IsDurable d old → IsDurable d new
+stays_durable d old new tells same kept h f p c left =
+    let before = kept.no_more f p c left in
+    rw (same (tells f p c before)) (h f p c before)
+
 module _ {D : Type 0} {d : Ghosts D} where
   -- a store that changes nothing but its next stamp holds the same
   pub holds_same : (old new : Store D d) (history : List Write) → Holds old history
@@ -209,9 +220,10 @@ module _ {D : Type 0} {d : Ghosts D} where
       → Holds old history → IsFullAtLimit history request reply)
       → IfSome (stamp_of reply) (λ stamp. (old.next ≤ stamp) × (stamp < new.next))
       → RoseBy (faults_told reply) (d.faults old.disk) (d.faults new.disk)
-      → TakesCalls reply (d.calls old.disk) (d.calls new.disk) → Steps old request reply new
+      → TakesCalls reply (d.calls old.disk) (d.calls new.disk)
+      → (IsDurable d old.disk → IsDurable d new.disk) → Steps old request reply new
   steps_kept old new request reply good unclosed later same pages closed silent sure other answers
-      full stamped cause taken = record {
+      full stamped cause taken lasting = record {
         answers = λ history h. answer_from d.tells history request reply good (answers history h);
         holds = λ history h. rw silent (holds_nothing_more new history (holds_same old new history h
             later same pages closed));
@@ -220,6 +232,7 @@ module _ {D : Type 0} {d : Ghosts D} where
         later = later;
         closes = closes_open old.closed request reply other unclosed;
         closing = rw sure (closed ∙ or_false old.closed);
+        durable = λ _. lasting;
         cause = cause;
         taken = taken;
       }
@@ -234,7 +247,7 @@ module _ {D : Type 0} {d : Ghosts D} where
       (λ t. ap d.seen disk) pages closed refl refl (λ e. cc)
       (λ history h. let k = h.kept unclosed key old.next (omega arith) in let n = rw nowhere at k in
       n)
-      (λ _ _. tt) (omega arith, omega (arith, next)) (rw disk (omega arith)) (ap d.calls disk)
+      (λ _ _. tt) (omega arith, omega (arith, next)) (rw disk (omega arith)) (ap d.calls disk) (λ h. rw disk h)
 
   -- a read of the key's page
   pub steps_read : (old new : Store D d) (key : List ℕ) (page : ℕ) (content : List ℕ)
@@ -244,37 +257,38 @@ module _ {D : Type 0} {d : Ghosts D} where
       → new.closed ≡ old.closed
       → (IsTrue d.tells → content ≡ d.seen old.disk 7 page) → d.faults old.disk ≤ d.faults new.disk
       → d.calls new.disk ≡ next_count (d.calls old.disk) → IsFoundIn content key old.next reply
-      → Steps old (Get key) reply new
+      → (IsDurable d old.disk → IsDurable d new.disk) → Steps old (Get key) reply new
   steps_read old new key page content (Found stamp value) good unclosed here next same pages closed
-      read faults calls found =
+      read faults calls found lasting =
       steps_kept old new (Get key) (Found stamp value) good unclosed (omega (arith, next)) same
       pages closed refl refl (λ e. cc)
       (λ history h. let keeps = h.kept unclosed key stamp (omega (arith, found.0)) in
       let kept = rw here at keeps in read_kept d.tells (d.seen old.disk) page key
       (value_at history stamp key) value kept (λ t. rw (← read t) found.1))
       (λ _ _. tt) (omega (arith, found.0), omega (arith, found.0, next)) (omega arith) calls
+      lasting
   steps_read old new key page content NoMemory good unclosed here next same pages closed read faults
-      calls found =
+      calls found lasting =
       steps_kept old new (Get key) NoMemory good unclosed (omega (arith, next)) same pages closed
-      refl refl (λ e. cc) (λ _ _. tt) (λ _ _. tt) tt (omega arith) tt
+      refl refl (λ e. cc) (λ _ _. tt) (λ _ _. tt) tt (omega arith) tt lasting
   steps_read old new key page content (Stored stamp) good unclosed here next same pages closed read
-      faults calls found = absurd found
+      faults calls found lasting = absurd found
   steps_read old new key page content (Missing stamp) good unclosed here next same pages closed read
-      faults calls found = absurd found
+      faults calls found lasting = absurd found
   steps_read old new key page content BadKey good unclosed here next same pages closed read faults
-      calls found = absurd found
+      calls found lasting = absurd found
   steps_read old new key page content TooLarge good unclosed here next same pages closed read faults
-      calls found = absurd found
+      calls found lasting = absurd found
   steps_read old new key page content (Full class) good unclosed here next same pages closed read
-      faults calls found = absurd found
+      faults calls found lasting = absurd found
   steps_read old new key page content DiskFault good unclosed here next same pages closed read
-      faults calls found = absurd found
+      faults calls found lasting = absurd found
   steps_read old new key page content (Unsure stamp) good unclosed here next same pages closed read
-      faults calls found = absurd found
+      faults calls found lasting = absurd found
   steps_read old new key page content Closed good unclosed here next same pages closed read faults
-      calls found = absurd found
+      calls found lasting = absurd found
   steps_read old new key page content (Malformed offset) good unclosed here next same pages closed
-      read faults calls found = absurd found
+      read faults calls found lasting = absurd found
 
   -- a read that failed
   pub steps_read_failed : (old new : Store D d) (key : List ℕ) → refusal_of (only_class 7) (Get key)
@@ -282,10 +296,11 @@ module _ {D : Type 0} {d : Ghosts D} where
       → (IsTrue d.tells → d.seen new.disk ≡ d.seen old.disk) → new.pages.entries ≡ old.pages.entries
       → new.closed ≡ old.closed
       → RoseBy 1 (d.faults old.disk) (d.faults new.disk)
-      → d.calls new.disk ≡ next_count (d.calls old.disk) → Steps old (Get key) DiskFault new
-  steps_read_failed old new key good unclosed next same pages closed rose calls =
+      → d.calls new.disk ≡ next_count (d.calls old.disk)
+      → (IsDurable d old.disk → IsDurable d new.disk) → Steps old (Get key) DiskFault new
+  steps_read_failed old new key good unclosed next same pages closed rose calls lasting =
       steps_kept old new (Get key) DiskFault good unclosed (omega (arith, next)) same pages closed
-      refl refl (λ e. cc) (λ _ _. tt) (λ _ _. tt) tt rose calls
+      refl refl (λ e. cc) (λ _ _. tt) (λ _ _. tt) tt rose calls lasting
 
   -- a put that has no slot
   pub steps_full : (old new : Store D d) (key value : List ℕ)
@@ -298,7 +313,7 @@ module _ {D : Type 0} {d : Ghosts D} where
   steps_full old new key value good fits unclosed next disk pages closed full =
       steps_kept old new (Put key value) (Full 7) good unclosed (omega (arith, next))
       (λ t. ap d.seen disk) pages closed refl refl (λ e. cc) (λ _ _. fits) full tt
-      (rw disk (omega arith)) (ap d.calls disk)
+      (rw disk (omega arith)) (ap d.calls disk) (λ h. rw disk h)
 
   -- a put that has no memory
   pub steps_no_memory : (old new : Store D d) (key value : List ℕ)
@@ -308,7 +323,7 @@ module _ {D : Type 0} {d : Ghosts D} where
   steps_no_memory old new key value good unclosed next disk pages closed =
       steps_kept old new (Put key value) NoMemory good unclosed (omega (arith, next))
       (λ t. ap d.seen disk) pages closed refl refl (λ e. cc) (λ _ _. tt) (λ _ _. tt) tt
-      (rw disk (omega arith)) tt
+      (rw disk (omega arith)) tt (λ h. rw disk h)
 
   -- a put whose write or sync failed
   pub steps_unsure : (old new : Store D d) (key value : List ℕ)
@@ -328,6 +343,7 @@ module _ {D : Type 0} {d : Ghosts D} where
     later = omega (arith, next);
     closes = closes_open old.closed (Put key value) (Unsure old.next) (λ e. cc) unclosed;
     closing = rw unclosed closed;
+    durable = λ e. absurd (false≢true (sym e ∙ closed));
     cause = rose;
     taken = tt;
   }
@@ -376,10 +392,10 @@ module _ {D : Type 0} {d : Ghosts D} where
       → GivesPage old.pages new.pages key page → IsPlaced new.pages
       → (IsTrue d.tells → d.seen new.disk ≡ with_page (d.seen old.disk) 7 page content)
       → ReadsAs content key value → d.faults old.disk ≤ d.faults new.disk
-      → d.calls new.disk ≡ next_count (next_count (d.calls old.disk))
+      → d.calls new.disk ≡ next_count (next_count (d.calls old.disk)) → IsDurable d new.disk
       → Steps old (Put key value) (Stored old.next) new
   steps_stored old new key value content page good unclosed closed next small was room gives placed
-      written reads faults calls = record {
+      written reads faults calls settled = record {
         answers = λ history h. answer_from d.tells history (Put key value) (Stored old.next) good tt;
         holds = λ history h. holds_put old new key value content page history h unclosed next gives
             placed written reads;
@@ -388,6 +404,7 @@ module _ {D : Type 0} {d : Ghosts D} where
         later = omega (arith, next);
         closes = closes_open old.closed (Put key value) (Stored old.next) (λ e. cc) unclosed;
         closing = closed ∙ or_false old.closed;
+        durable = λ _ _. settled;
         cause = omega arith;
         taken = calls;
       }

@@ -25,6 +25,7 @@ use Rattle.kv_serve.specs.declared.ended.Ended.{Ended}
 use Rattle.kv_serve.specs.Causes.{any_unsure}
 use Rattle.kv_serve.specs.Open.{IsBlank, IsUsed}
 use Rattle.kv_serve.specs.Run.{Streams, pairs_of}
+use Rattle.kv_serve.specs.Store.{IsDurable}
 use Rattle.kv_serve.specs.Answers.{HasAnswers}
 
 -- a session with its store, from its first byte to its end: what it took, handled, gave and left,
@@ -101,10 +102,11 @@ pub record BringsBoth {In Out Pages : Type 0} (before after : Held In Out Pages)
   pub sessions : ReturnsSession before after ends ends'
   pub report : after.report ≡ before.report
 
--- the disk was new, and has its head page
-abbrev pub Opens : {D : Type 0} → Ghosts D → D → D → Type 0
-Opens d disk disk' = IsTrue d.tells → IsBlank (d.seen disk)
-    × (d.seen disk' ≡ with_page (d.seen disk) 0 0 (head_page 0 1))
+-- the disk was new, and has its head page, also after a crash
+pub record Opens {D : Type 0} (d : Ghosts D) (disk disk' : D) : Type 0 where
+  pub new : IsTrue d.tells → IsBlank (d.seen disk)
+      × (d.seen disk' ≡ with_page (d.seen disk) 0 0 (head_page 0 1))
+  pub durable : IsDurable d disk'
 
 -- why the disk wasn't opened
 abbrev pub OpenFails : {D : Type 0} → Ghosts D → D → D → OpenFault → Type 0
@@ -138,8 +140,8 @@ Refuses {Pages = Pages} d o folder status (Some (TakeSession session)) = (status
     → ReturnsDisk o.before o.after folder disk disk') × Opens d disk disk' × Rose o.faults o.faults'
 Refuses {Pages = Pages} d o folder status (Some TakeReport) = ⊥
 
--- a session was served over a new disk: both were taken and given back, and the status is that of
--- its end
+-- a session was served over a new disk: both were taken and given back, the disk is durable unless a
+-- write is unsure, and the status is that of the session's end
 pub record IsServed {In Out Pages : Type 0} (d : Ghosts Pages) (o : Outside In Out Pages)
     (folder : List ℕ) (status : ℕ) (ending : Ending) : Type 0 where
   pub disk : Pages
@@ -151,6 +153,7 @@ pub record IsServed {In Out Pages : Type 0} (d : Ghosts Pages) (o : Outside In O
   pub disks : IsTrue o.tells → ReturnsDisk o.before o.after folder disk disk'
   pub sessions : IsTrue o.tells → ReturnsSession o.before o.after ends ends'
   pub serves : Serves d o.streams disk disk' ends.0 ends'.0 ends.1 ends'.1 ending unsure
+  pub durable : unsure ≡ false → IsDurable d disk'
   pub status_is : status ≡ served_status ending.cause unsure
 
 -- what the command did, by its endings: none where nothing was served, and then all sessions are

@@ -18,6 +18,7 @@ use Rattle.kv_serve.specs.Pages.{place_of}
 use Rattle.kv_serve.specs.Content.{ReadsAs}
 use Rattle.kv_serve.specs.Causes.{RoseBy, is_unsure, faults_told, IsFullAtLimit}
 use Rattle.kv_disk.specs.declared.disk.Disk.{Ghosts}
+use Rattle.kv_disk.specs.Disk.{Only}
 use Rattle.kv_serve.specs.declared.store.Store.{Store}
 
 -- the key's page has the value, where the disk tells; a key without a page has none
@@ -33,6 +34,10 @@ pub record Holds {D : Type 0} {d : Ghosts D} (store : Store D d)
   pub kept : store.closed ≡ false → (key : List ℕ) (stamp : ℕ) → store.next ≤ stamp + 1
       → Keeps d.tells (d.seen store.disk) (place_of store.pages key) key
       (value_at history stamp key)
+
+-- a crash now leaves just what the disk reads as
+abbrev pub IsDurable : {D : Type 0} → Ghosts D → D → Type 0
+IsDurable d disk = Only (d.seen disk) (d.leaves disk (d.calls disk))
 
 -- the device calls that the reply took
 abbrev pub TakesCalls : Reply → ℕ → ℕ → Type 0
@@ -60,5 +65,6 @@ pub record Steps {D : Type 0} {d : Ghosts D} (old : Store D d) (request : Reques
   pub later : old.next ≤ new.next
   pub closes : (reply ≡ Closed) ↔ ((old.closed ≡ true) × (refusal_of (only_class 7) request ≡ None))
   pub closing : new.closed ≡ (old.closed || is_unsure reply)
+  pub durable : new.closed ≡ false → IsDurable d old.disk → IsDurable d new.disk
   pub cause : RoseBy (faults_told reply) (d.faults old.disk) (d.faults new.disk)
   pub taken : TakesCalls reply (d.calls old.disk) (d.calls new.disk)

@@ -3,6 +3,7 @@ ghost use Rattle.kv_base.specs.Fault.{Rose, HasCause};
 ghost use Rattle.kv_base.specs.Image.{with_page, zero_page};
 ghost use Rattle.kv_model.specs.Head.{head_page};
 ghost use Rattle.kv_serve.specs.Open.{IsBlank, IsUsed};
+ghost use Rattle.kv_serve.specs.Store.{IsDurable};
 
 use kv_base::Failed;
 use kv_disk::Disk;
@@ -33,6 +34,7 @@ pub fn make_store<D: Disk>(disk: &mut D) -> Result<(), OpenFault>
     ensures blank { IsTrue D.tells → OnOk result (IsBlank (D.seen disk.old)) }
     ensures head { IsTrue D.tells
         → OnOk result (D.seen disk.new ≡ with_page (D.seen disk.old) 0 0 (head_page 0 1)) }
+    ensures durable { OnOk result (IsDurable ⟦<D as Disk>⟧ disk.new) }
     ensures not_a_store { IsTrue D.tells → result ≡ Err OpenFault.NotAStore
         → IsUsed (D.seen disk.old) }
     ensures kept { IsTrue D.tells → result ≡ Err OpenFault.NotAStore
@@ -99,6 +101,7 @@ fn is_blank(content: &[u8; 4096]) -> bool
 fn write_head<D: Disk>(disk: &mut D) -> Result<(), Failed>
     ensures head { IsTrue D.tells
         → OnOk result (D.seen disk.new ≡ with_page (D.seen disk.old) 0 0 (head_page 0 1)) }
+    ensures durable { OnOk result (IsDurable ⟦<D as Disk>⟧ disk.new) }
     ensures cause { HasCause (D.faults disk.old) (D.faults disk.new) result }
 {
     let mut content = [0; 4096];

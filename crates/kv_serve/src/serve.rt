@@ -2,7 +2,7 @@ ghost use Rattle.std.specs.Prelude.{◌≡◌, ◌^◌, ◌≤◌, ◌<◌, [], 
 ghost use Rattle.kv_serve.specs.Session.{IsNew};
 ghost use Rattle.kv_serve.specs.Run.{Streams};
 ghost use Rattle.kv_serve.specs.Serve.{Serves, served_status};
-ghost use Rattle.kv_serve.specs.Store.{Holds};
+ghost use Rattle.kv_serve.specs.Store.{Holds, IsDurable};
 
 use crate::ending::{Ending, Finished};
 use crate::runs::run;
@@ -33,7 +33,7 @@ pub fn serve_one<D: Disk, So: Source, Si: Sink>(
     requires new { IsNew session }
     requires empty { undelivered.items ≡ [] }
     requires spare { 0 < undelivered.spare }
-    ensures { let streams : Streams So Si = record {
+    ensures serves { let streams : Streams So Si = record {
       stream = So.stream;
       source_faults = So.faults;
       held = Si.held;
@@ -41,6 +41,8 @@ pub fn serve_one<D: Disk, So: Source, Si: Sink>(
     } in
         Serves ⟦<D as Disk>⟧ streams store.disk result.disk session.source result.source
         session.sink result.sink result.ending result.unsure }
+    ensures durable { IsDurable ⟦<D as Disk>⟧ store.disk → result.unsure ≡ false
+        → IsDurable ⟦<D as Disk>⟧ result.disk }
 {
     let finished = run(&mut store, session, undelivered);
     let Finished {

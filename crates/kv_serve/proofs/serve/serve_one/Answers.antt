@@ -2,11 +2,11 @@
 use Rattle.std.proofs.Common.{◌∙◌, ap, arith, ◌||◌}
 use Rattle.kv_serve.specs.Causes.{any_unsure}
 use Rattle.kv_serve.specs.Run.{pairs_of}
-use Rattle.kv_serve.proofs.AnswerLemmas.{run_has_answers, run_unsure}
+use Rattle.kv_serve.proofs.AnswerLemmas.{run_has_answers, run_unsure, run_durable}
 use Rattle.kv_serve.proofs.serve.serve_one.Goals as goal
 
-pub returns : goal.returns
-returns g c =
+pub returns-clause-serves : goal.returns-clause-serves
+returns-clause-serves g c =
     let s = c.run-finished.ensures.session in
     record {
       bytes = s.bytes;
@@ -26,3 +26,8 @@ returns g c =
       source_rose = s.source_rose;
       sink_rose = s.sink_rose;
     }
+
+pub returns-clause-durable : goal.returns-clause-durable
+returns-clause-durable g c durable sure =
+    let s = c.run-finished.ensures.session in
+    run_durable (pairs_of s.handled s.replies) _ _ s.runs sure durable

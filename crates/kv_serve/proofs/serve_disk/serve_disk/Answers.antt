@@ -5,11 +5,13 @@ use Rattle.kv_serve.proofs.serve_disk.serve_disk.Goals as goal
 
 pub returns-in-Ok : goal.returns-in-Ok
 returns-in-Ok g c before folder n taken risen =
-    c.serve_store.ensures before folder n c.args.disk taken (λ t. (
-      c.in-Ok.ensures.blank t,
-      rw c.new_store.ensures.disk (c.in-Ok.ensures.head t),
-    )) (rw c.new_store.ensures.disk
-    c.make_store.ensures.later) risen
+    c.serve_store.ensures before folder n c.args.disk taken (record {
+      new = λ t. (
+        c.in-Ok.ensures.blank t,
+        rw c.new_store.ensures.disk (c.in-Ok.ensures.head t),
+      );
+      durable = rw c.new_store.ensures.disk c.in-Ok.ensures.durable;
+    }) (rw c.new_store.ensures.disk c.make_store.ensures.later) risen
 
 pub returns-in-Err : goal.returns-in-Err
 returns-in-Err g c before folder n taken risen =

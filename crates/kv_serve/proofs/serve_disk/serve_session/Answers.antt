@@ -19,12 +19,13 @@ returns-in-Ok g c before between folder n taken disk_taken session_taken opens f
           ends = (c.args.source, c.args.sink);
           ends' = (c.serve_one-served.result.source, c.serve_one-served.result.sink);
           unsure = c.serve_one-served.result.unsure;
-          new = λ t. (opens t).0;
+          new = λ t. (opens.new t).0;
           disks = λ t. (back t).disks;
           sessions = λ t. (back t).sessions;
           serves = serves_from g.S.Pages.Disk _ taken c.args.store.disk _ c.args.source
               c.in-Ok.session.source _ c.args.sink c.in-Ok.session.sink _ _ _ c.in-Ok.ensures.ok.1
-              c.in-Ok.ensures.ok.2 faults c.serve_one-served.ensures;
+              c.in-Ok.ensures.ok.2 faults c.serve_one-served.ensures.serves;
+          durable = λ sure. c.serve_one-served.ensures.durable opens.durable sure;
           status_is = c.status_of-status.ensures;
         },
       );

@@ -4,6 +4,7 @@ use Rattle.kv_base.specs.declared.request.Request.TheVariants.{Get}
 use Rattle.kv_model.specs.Layout.{only_class}
 use Rattle.kv_model.specs.Agreement.{refusal_of}
 use Rattle.kv_serve.proofs.StoreLemmas.{steps_missing, steps_read, steps_read_failed}
+use Rattle.kv_serve.proofs.StoreLemmas.{stays_durable}
 use Rattle.kv_serve.proofs.store.Store.get.Goals as goal
 
 pub returns-in-None-clause-step : goal.returns-in-None-clause-step
@@ -19,6 +20,8 @@ returns-in-Ok-clause-step g c =
     steps_read _ _ c.args.key.now c.in-Some.page c.read.new.buf _ good unclosed
     (sym c.in-Some.ensures) refl c.read.ensures.seen refl refl (λ t. c.in-Ok.ensures.content t)
     c.read.ensures.cause.later c.read.ensures.past.counted c.found.ensures.value
+    (stays_durable g.D.Disk _ _ (λ f p x left. (g.met.D.Disk.told c.args.self.now.disk _ f p x left).0)
+    c.read.ensures.seen c.read.ensures.crash)
 
 pub returns-in-Err-clause-step : goal.returns-in-Err-clause-step
 returns-in-Err-clause-step g c =
@@ -26,3 +29,5 @@ returns-in-Err-clause-step g c =
     let unclosed : c.args.self.now.closed ≡ false = search rules in
     steps_read_failed _ _ c.args.key.now good unclosed refl c.read.ensures.seen refl refl
     c.in-Err.ensures.cause.failed c.read.ensures.past.counted
+    (stays_durable g.D.Disk _ _ (λ f p x left. (g.met.D.Disk.told c.args.self.now.disk _ f p x left).0)
+    c.read.ensures.seen c.read.ensures.crash)

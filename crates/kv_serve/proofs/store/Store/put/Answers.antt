@@ -48,7 +48,7 @@ returns-in-Ok-write_item-clause-step g c =
     c.page_for.ensures.placed (λ t. c.in-Ok-write_item.ensures.written t)
     (reads-item_bytes c.slots_read_again.ensures.items c.args.self.now.next c.args.key.now
     c.args.value.now (omega arith) is fits) c.write_item.ensures.cause.later
-    c.in-Ok-write_item.ensures.calls
+    c.in-Ok-write_item.ensures.calls c.in-Ok-write_item.ensures.durable
 
 pub returns-in-Err-clause-step : goal.returns-in-Err-clause-step
 returns-in-Err-clause-step g c =

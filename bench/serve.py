@@ -49,35 +49,41 @@ def write_input(path: str, count: int) -> None:
 
 
 class Watch:
-    """Counts the bytes of the replies as they come, and notes when the puts' replies and all of them are there."""
+    """Counts the bytes of the replies as they come: when those of the puts and when all were there."""
 
     def __init__(self, count: int):
         self.put_bytes, self.all_bytes = 13 * count, 13 * count + (13 + len(VALUE)) * count
 
-    def follow(self, stream) -> tuple[float, float]:
-        begin, seen, puts = time.perf_counter(), 0, 0.0
-        while piece := os.read(stream.fileno(), 1 << 16):
+    def follow(self, process: subprocess.Popen) -> tuple[float, float, int]:
+        begin, seen, puts, peak = time.perf_counter(), 0, 0.0, 0
+        while piece := os.read(process.stdout.fileno(), 1 << 16):
             seen += len(piece)
             if not puts and seen >= self.put_bytes:
                 puts = time.perf_counter() - begin
+            if not peak and 2 * seen >= self.all_bytes:
+                peak = peak_kilobytes(process.pid)
         if seen != self.all_bytes:
             sys.exit(f"{seen} bytes of replies in place of {self.all_bytes}")
-        return puts, time.perf_counter() - begin - puts
+        return puts, time.perf_counter() - begin - puts, peak
 
 
-def peak_kilobytes(process: subprocess.Popen) -> int:
-    _, status, usage = os.wait4(process.pid, 0)
-    process.returncode = os.waitstatus_to_exitcode(status)
-    if process.returncode != 0:
+def peak_kilobytes(pid: int) -> int:
+    """The most memory that the program had so far; all keys are there when half of the bytes are."""
+    with open(f"/proc/{pid}/status", encoding="ascii") as file:
+        return next(int(line.split()[1]) for line in file if line.startswith("VmHWM"))
+
+
+def wait_for_end(process: subprocess.Popen) -> None:
+    if process.wait() != 0:
         sys.exit(f"it ended with the status {process.returncode}")
-    return usage.ru_maxrss
 
 
 def from_file(words: list[str], path: str, count: int) -> tuple[float, float, int]:
     with open(path, "rb") as file:
         process = subprocess.Popen(words, stdin=file, stdout=subprocess.PIPE)
-        puts, gets = Watch(count).follow(process.stdout)
-    return count / puts, count / gets, peak_kilobytes(process)
+        puts, gets, peak = Watch(count).follow(process)
+    wait_for_end(process)
+    return count / puts, count / gets, peak
 
 
 def one_by_one(words: list[str], count: int) -> float:
@@ -89,7 +95,7 @@ def one_by_one(words: list[str], count: int) -> float:
         os.read(process.stdout.fileno(), 13)
     seconds = time.perf_counter() - begin
     process.stdin.close()
-    peak_kilobytes(process)
+    wait_for_end(process)
     return count / seconds
 
 

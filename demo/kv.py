@@ -131,7 +131,7 @@ REPLIES = {
 
 STATUSES = {
     1: "A put is unsure or bytes were no request, as a line above says; else the session's input or output failed.",
-    2: "kvell didn't take its words: DIR is not empty, and begins with - only where it is - alone.",
+    2: "kvell didn't take its words: DIR may not be empty, nor begin with - but where it is - alone.",
     3: "The store can't be made: the folder above DIR isn't there, DIR has a store, or its disk failed.",
     4: "There was no memory to begin with.",
 }

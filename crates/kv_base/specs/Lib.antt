@@ -6,3 +6,4 @@ pub mod Limits
 pub mod Stream
 pub mod Memory
 pub mod Image
+pub mod Adapters

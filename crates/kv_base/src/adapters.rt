@@ -1,8 +1,12 @@
-ghost use Rattle.std.specs.Prelude.{◌≡◌, ℕ, List, Option, None};
-ghost use Rattle.kv_base.specs.Stream.{Stream};
+ghost use Rattle.std.specs.Prelude.{◌≡◌, ℕ, ◌<◌, ◌≤◌, List, [], Option, None, Ok, take, length};
+ghost use Rattle.std.specs.Prelude.{IfOk, OnErr};
+ghost use Rattle.std.specs.Io.KnownBytes.{ReadConsumes, WriteAppends};
+ghost use Rattle.kv_base.specs.Fault.{HasCause, Counted};
+ghost use Rattle.kv_base.specs.Stream.{Stream, Passes, IsSpent, Takes};
 
 use crate::{Failed, Sink, Source};
 use std::io::{Read, Write};
+use std::marker::Model;
 
 /// A source over any reader of std. It makes one call of the reader for each of its own and keeps
 /// no byte back. It counts each error as a fault, and tells no bytes.
@@ -12,9 +16,19 @@ pub struct ReaderSource<R: Read> {
     faults: u64,
 }
 
+impl<R: Read> Model for ReaderSource<R> {
+    ghost use Rattle.kv_base.specs.Adapters.{Adapter};
+
+    ghost Value = { Adapter R };
+
+    ghost view = { λ s. record { inner = s.reader; faults = s.faults } };
+}
+
 impl<R: Read> ReaderSource<R> {
     /// A source over the reader, without a fault so far.
-    pub fn new(reader: R) -> ReaderSource<R> {
+    pub fn new(reader: R) -> ReaderSource<R>
+        ensures { result ≡ record { inner = reader; faults = 0 } }
+    {
         ReaderSource { reader, faults: 0 }
     }
 }
@@ -24,7 +38,19 @@ impl<R: Read> Source for ReaderSource<R> {
 
     ghost faults = { λ s. s.faults };
 
-    fn read(&mut self, buf: &mut [u8]) -> Result<usize, Failed> {
+    fn read(&mut self, buf: &mut [u8]) -> Result<usize, Failed>
+        requires { 0 < length buf.old }
+        ensures bound { IfOk result (λ n. n ≤ length buf.new) }
+        ensures bytes { IfOk result (λ n. Passes None None (take n buf.new)) }
+        ensures end { result ≡ Ok 0 → IsSpent None }
+        ensures err { OnErr result (Passes None None []) }
+        ensures cause { HasCause self.old.faults self.new.faults result }
+
+        // what the reader tells, and just an error is counted
+        ensures known { ReadConsumes (R.remaining self.old.inner) (R.remaining self.new.inner)
+            result buf.new }
+        ensures counted { Counted self.old.faults self.new.faults result }
+    {
         match self.reader.read(buf) {
             Ok(n) => Ok(n),
             Err(_) => {
@@ -44,9 +70,19 @@ pub struct WriterSink<W: Write> {
     faults: u64,
 }
 
+impl<W: Write> Model for WriterSink<W> {
+    ghost use Rattle.kv_base.specs.Adapters.{Adapter};
+
+    ghost Value = { Adapter W };
+
+    ghost view = { λ s. record { inner = s.writer; faults = s.faults } };
+}
+
 impl<W: Write> WriterSink<W> {
     /// A sink over the writer, without a fault so far.
-    pub fn new(writer: W) -> WriterSink<W> {
+    pub fn new(writer: W) -> WriterSink<W>
+        ensures { result ≡ record { inner = writer; faults = 0 } }
+    {
         WriterSink { writer, faults: 0 }
     }
 }
@@ -56,7 +92,18 @@ impl<W: Write> Sink for WriterSink<W> {
 
     ghost faults = { λ s. s.faults };
 
-    fn write(&mut self, bytes: &[u8]) -> Result<usize, Failed> {
+    fn write(&mut self, bytes: &[u8]) -> Result<usize, Failed>
+        requires { 0 < length bytes.now }
+        ensures bound { IfOk result (λ n. (0 < n) × (n ≤ length bytes.now)) }
+        ensures bytes { IfOk result (λ n. Takes None None (take n bytes.now)) }
+        ensures err { OnErr result (Takes None None []) }
+        ensures cause { HasCause self.old.faults self.new.faults result }
+
+        // what the writer tells, and just an error is counted
+        ensures known { WriteAppends (W.contents self.old.inner) (W.contents self.new.inner)
+            result bytes.now }
+        ensures counted { Counted self.old.faults self.new.faults result }
+    {
         match self.writer.write(bytes) {
             Ok(n) if n > 0 => Ok(n),
             _ => {

@@ -1,5 +1,5 @@
 ghost use Rattle.std.specs.Prelude.{ℕ, ◌<◌, ◌≤◌, List, [], Option, take, length, IfOk, OnErr};
-ghost use Rattle.kv_base.specs.Fault.{HasCause};
+ghost use Rattle.kv_base.specs.Fault.{HasCause, Counted};
 ghost use Rattle.kv_base.specs.Stream.{Takes};
 
 use crate::Failed;
@@ -19,5 +19,6 @@ pub trait Sink {
         ensures bound { IfOk result (λ n. (0 < n) × (n ≤ length bytes.now)) }
         ensures bytes { IfOk result (λ n. Takes (held self.old) (held self.new) (take n bytes.now)) }
         ensures err { OnErr result (Takes (held self.old) (held self.new) []) }
-        ensures cause { HasCause (faults self.old) (faults self.new) result };
+        ensures cause { HasCause (faults self.old) (faults self.new) result }
+        ensures counted { Counted (faults self.old) (faults self.new) result };
 }

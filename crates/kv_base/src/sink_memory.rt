@@ -1,6 +1,6 @@
 ghost use Rattle.std.specs.Prelude.{◌≡◌, ℕ, ◌<◌, ◌≤◌, List, [], Option, Some, take, length, IfOk};
 ghost use Rattle.std.specs.Prelude.{OnErr};
-ghost use Rattle.kv_base.specs.Fault.{HasCause};
+ghost use Rattle.kv_base.specs.Fault.{HasCause, Counted};
 ghost use Rattle.kv_base.specs.Stream.{Takes};
 ghost use Rattle.kv_base.specs.Memory.{Tray, Writes};
 
@@ -76,6 +76,7 @@ impl Sink for MemSink {
             (take n bytes.now)) }
         ensures err { OnErr result (Takes (Some self.old.taken) (Some self.new.taken) []) }
         ensures cause { HasCause self.old.faults self.new.faults result }
+        ensures counted { Counted self.old.faults self.new.faults result }
 
         // exactly when it fails, and how much it takes
         ensures exact { Writes self.old self.new bytes.now result }

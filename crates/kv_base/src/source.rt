@@ -1,6 +1,6 @@
 ghost use Rattle.std.specs.Prelude.{◌≡◌, ℕ, ◌<◌, ◌≤◌, List, [], Option, Ok, take, length, IfOk};
 ghost use Rattle.std.specs.Prelude.{OnErr};
-ghost use Rattle.kv_base.specs.Fault.{HasCause};
+ghost use Rattle.kv_base.specs.Fault.{HasCause, Counted};
 ghost use Rattle.kv_base.specs.Stream.{Stream, Passes, IsSpent};
 
 use crate::Failed;
@@ -23,5 +23,6 @@ pub trait Source {
             (take n buf.new)) }
         ensures end { result ≡ Ok 0 → IsSpent (stream self.new) }
         ensures err { OnErr result (Passes (stream self.old) (stream self.new) []) }
-        ensures cause { HasCause (faults self.old) (faults self.new) result };
+        ensures cause { HasCause (faults self.old) (faults self.new) result }
+        ensures counted { Counted (faults self.old) (faults self.new) result };
 }

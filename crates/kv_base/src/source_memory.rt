@@ -1,6 +1,6 @@
 ghost use Rattle.std.specs.Prelude.{◌≡◌, ℕ, ◌<◌, ◌≤◌, List, [], Option, Ok, Some, take, length};
 ghost use Rattle.std.specs.Prelude.{IfOk, IsOk, OnErr};
-ghost use Rattle.kv_base.specs.Fault.{HasCause};
+ghost use Rattle.kv_base.specs.Fault.{HasCause, Counted};
 ghost use Rattle.kv_base.specs.Stream.{Stream, Passes, IsSpent};
 ghost use Rattle.kv_base.specs.Memory.{Feed, Reads, SureReads};
 
@@ -71,6 +71,7 @@ impl Source for MemSource {
         ensures end { result ≡ Ok 0 → IsSpent (Some self.new.stream) }
         ensures err { OnErr result (Passes (Some self.old.stream) (Some self.new.stream) []) }
         ensures cause { HasCause self.old.faults self.new.faults result }
+        ensures counted { Counted self.old.faults self.new.faults result }
 
         // exactly when it fails, and how much it gives
         ensures exact { Reads self.old self.new buf.old result }
@@ -128,6 +129,7 @@ impl Source for SureSource {
         ensures end { result ≡ Ok 0 → IsSpent (Some self.new.stream) }
         ensures err { OnErr result (Passes (Some self.old.stream) (Some self.new.stream) []) }
         ensures cause { HasCause 0 0 result }
+        ensures counted { Counted 0 0 result }
 
         // it never fails, and how much it gives
         ensures exact { SureReads self.old self.new buf.old result }

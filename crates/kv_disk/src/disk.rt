@@ -1,6 +1,6 @@
 ghost use Rattle.std.specs.Prelude.{◌≡◌, ℕ, ◌-◌, ◌^◌, ◌≤◌, ◌<◌, Bool, List, IsTrue, IfOk, OnOk};
 ghost use Rattle.std.specs.Prelude.{OnErr};
-ghost use Rattle.kv_base.specs.Fault.{HasCause};
+ghost use Rattle.kv_base.specs.Fault.{HasCause, Counted};
 ghost use Rattle.kv_base.specs.Image.{Image, zero_page, with_page};
 ghost use Rattle.kv_disk.specs.Disk.{Choices, MayLeave, Only, NoMore, Same, Adds, WrittenOrNot};
 ghost use Rattle.kv_disk.specs.Disk.{Advances};
@@ -38,7 +38,8 @@ pub trait Disk {
         ensures crash { Same (leaves self.old (calls self.old)) (leaves self.new (calls self.new)) }
         ensures past { Advances (calls self.old) (calls self.new) (leaves self.old)
             (leaves self.new) }
-        ensures cause { HasCause (faults self.old) (faults self.new) result };
+        ensures cause { HasCause (faults self.old) (faults self.new) result }
+        ensures counted { Counted (faults self.old) (faults self.new) result };
 
     /// Writes a page, which then reads as the content. After `Failed`, which the count of faults
     /// shows, it reads as before or as the content, and a crash may leave the content there too.
@@ -53,7 +54,8 @@ pub trait Disk {
             (leaves self.new (calls self.new)) }
         ensures past { Advances (calls self.old) (calls self.new) (leaves self.old)
             (leaves self.new) }
-        ensures cause { HasCause (faults self.old) (faults self.new) result };
+        ensures cause { HasCause (faults self.old) (faults self.new) result }
+        ensures counted { Counted (faults self.old) (faults self.new) result };
 
     /// Makes all writes so far durable: a crash leaves just what is read. After `Failed`, which the
     /// count of faults shows, all stands as before.
@@ -65,7 +67,8 @@ pub trait Disk {
         ensures crash { NoMore (leaves self.old (calls self.old)) (leaves self.new (calls self.new)) }
         ensures past { Advances (calls self.old) (calls self.new) (leaves self.old)
             (leaves self.new) }
-        ensures cause { HasCause (faults self.old) (faults self.new) result };
+        ensures cause { HasCause (faults self.old) (faults self.new) result }
+        ensures counted { Counted (faults self.old) (faults self.new) result };
 
     /// A number of pages of the file, such that every page at or past it is zero.
     fn length(&mut self, file: u8) -> Result<u32, Failed>
@@ -76,7 +79,8 @@ pub trait Disk {
         ensures crash { Same (leaves self.old (calls self.old)) (leaves self.new (calls self.new)) }
         ensures past { Advances (calls self.old) (calls self.new) (leaves self.old)
             (leaves self.new) }
-        ensures cause { HasCause (faults self.old) (faults self.new) result };
+        ensures cause { HasCause (faults self.old) (faults self.new) result }
+        ensures counted { Counted (faults self.old) (faults self.new) result };
 
     /// Where a content of a page may be left at some moment, the type tells what it reads, and a
     /// crash now may leave what is read.

@@ -2,7 +2,7 @@ ghost use Rattle.std.specs.Prelude.{◌≡◌, ℕ, ◌+◌, ◌-◌, ◌^◌, �
 ghost use Rattle.std.specs.Prelude.{◌++◌, [], true, false, refl, not, nat_le, min, is_some, List};
 ghost use Rattle.std.specs.Prelude.{length, vec_len, vec_capacity, Option, IsTrue, IsOk, IsNone};
 ghost use Rattle.std.specs.Prelude.{IfOk, IfSome, IfNone, OnOk, OnErr, if◌then◌else◌};
-ghost use Rattle.kv_base.specs.Fault.{HasCause};
+ghost use Rattle.kv_base.specs.Fault.{HasCause, Counted};
 ghost use Rattle.kv_base.specs.Image.{zero_page, with_page};
 ghost use Rattle.kv_disk.specs.Disk.{MayLeave, Only, NoMore, Same, Adds, WrittenOrNot, Advances};
 ghost use Rattle.kv_disk.specs.Plain.{content_at};
@@ -329,6 +329,7 @@ impl Disk for MemDisk {
         ensures past { Advances self.old.calls self.new.calls (choices_of self.old)
             (choices_of self.new) }
         ensures cause { HasCause self.old.faults self.new.faults result }
+        ensures counted { Counted self.old.faults self.new.faults result }
 
         // exactly when it fails, and what stays
         ensures exact { Looks self.old self.new result }
@@ -350,6 +351,7 @@ impl Disk for MemDisk {
         ensures past { Advances self.old.calls self.new.calls (choices_of self.old)
             (choices_of self.new) }
         ensures cause { HasCause self.old.faults self.new.faults result }
+        ensures counted { Counted self.old.faults self.new.faults result }
 
         // exactly when it fails, and what stays
         ensures exact { Writes file page content.now self.old self.new result }
@@ -368,6 +370,7 @@ impl Disk for MemDisk {
         ensures past { Advances self.old.calls self.new.calls (choices_of self.old)
             (choices_of self.new) }
         ensures cause { HasCause self.old.faults self.new.faults result }
+        ensures counted { Counted self.old.faults self.new.faults result }
 
         // exactly when it fails, and what stays
         ensures exact { Syncs self.old self.new result }
@@ -385,6 +388,7 @@ impl Disk for MemDisk {
         ensures past { Advances self.old.calls self.new.calls (choices_of self.old)
             (choices_of self.new) }
         ensures cause { HasCause self.old.faults self.new.faults result }
+        ensures counted { Counted self.old.faults self.new.faults result }
 
         // exactly when it fails, what it answers, and what stays
         ensures exact { Looks self.old self.new result }

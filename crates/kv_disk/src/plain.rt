@@ -1,6 +1,6 @@
 ghost use Rattle.std.specs.Prelude.{◌≡◌, ℕ, ◌+◌, ◌-◌, ◌^◌, ◌≤◌, ◌<◌, true, [], ◌∷◌, ◌++◌, length};
 ghost use Rattle.std.specs.Prelude.{vec_len, vec_capacity, IsTrue, IsOk, IfOk, OnOk, OnErr};
-ghost use Rattle.kv_base.specs.Fault.{HasCause};
+ghost use Rattle.kv_base.specs.Fault.{HasCause, Counted};
 ghost use Rattle.kv_base.specs.Image.{zero_page, with_page};
 ghost use Rattle.kv_disk.specs.Disk.{Only, NoMore, Same, Adds, WrittenOrNot, Advances};
 ghost use Rattle.std.specs.HashMap.{hash_map_len, spare};
@@ -113,6 +113,7 @@ impl Disk for PlainDisk {
         ensures crash { Same (no_choices self.old.calls) (no_choices self.new.calls) }
         ensures past { Advances self.old.calls self.new.calls no_choices no_choices }
         ensures cause { HasCause self.old.faults self.new.faults result }
+        ensures counted { Counted self.old.faults self.new.faults result }
 
         // it never fails
         ensures ok { IsOk result }
@@ -137,6 +138,7 @@ impl Disk for PlainDisk {
             (no_choices self.new.calls) }
         ensures past { Advances self.old.calls self.new.calls no_choices no_choices }
         ensures cause { HasCause self.old.faults self.new.faults result }
+        ensures counted { Counted self.old.faults self.new.faults result }
 
         // exactly when it fails
         ensures exact { PlainWrites file page self.old self.new result }
@@ -162,6 +164,7 @@ impl Disk for PlainDisk {
         ensures crash { NoMore (no_choices self.old.calls) (no_choices self.new.calls) }
         ensures past { Advances self.old.calls self.new.calls no_choices no_choices }
         ensures cause { HasCause self.old.faults self.new.faults result }
+        ensures counted { Counted self.old.faults self.new.faults result }
 
         // it never fails
         ensures ok { IsOk result }
@@ -179,6 +182,7 @@ impl Disk for PlainDisk {
         ensures crash { Same (no_choices self.old.calls) (no_choices self.new.calls) }
         ensures past { Advances self.old.calls self.new.calls no_choices no_choices }
         ensures cause { HasCause self.old.faults self.new.faults result }
+        ensures counted { Counted self.old.faults self.new.faults result }
 
         // it never fails
         ensures ok { IsOk result }

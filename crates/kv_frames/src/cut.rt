@@ -1,5 +1,7 @@
 ghost use Rattle.kv_frames.specs.Cut.{IsFront};
 
+use crate::numbers::u32_in;
+
 /// The most bytes of kind and body.
 pub const LONGEST_CONTENT: usize = 66_000;
 
@@ -24,7 +26,7 @@ pub fn cut_front(bytes: &[u8]) -> Front<'_>
     let Some((length, rest)) = bytes.split_first_chunk::<4>() else {
         return Front::More;
     };
-    let length = u32::from_le_bytes(*length) as usize;
+    let length = u32_in(length) as usize;
     if length < 1 || LONGEST_CONTENT < length {
         return Front::Malformed;
     }

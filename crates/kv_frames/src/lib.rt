@@ -4,6 +4,7 @@
 mod cut;
 mod kind;
 mod laws;
+mod numbers;
 mod owned;
 mod parse;
 mod put;

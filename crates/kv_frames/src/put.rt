@@ -3,6 +3,7 @@ ghost use Rattle.kv_model.specs.Frames.{framed, longest_content};
 ghost use Rattle.kv_model.specs.Frames.{HasRequestFrame, request_frame, HasReplyFrame, reply_frame};
 
 use crate::kind;
+use crate::numbers::{u32_bytes, u64_bytes};
 use kv_base::{NoMemory, Reply, Request};
 
 /// Writes the reply's frame: `out` then holds it and nothing else, whatever it held. The one error
@@ -15,21 +16,21 @@ pub fn put_reply(reply: &Reply, out: &mut Vec<u8>) -> Result<(), NoMemory>
     ensures capacity { vec_capacity out.old ≤ vec_capacity out.new }
 {
     match reply {
-        Reply::Stored { stamp } => put_frame(&[kind::STORED], &stamp.to_le_bytes(), &[], out),
+        Reply::Stored { stamp } => put_frame(&[kind::STORED], &u64_bytes(*stamp), &[], out),
         Reply::Found { stamp, value } => {
-            put_frame(&[kind::FOUND], &stamp.to_le_bytes(), value.as_slice(), out)
+            put_frame(&[kind::FOUND], &u64_bytes(*stamp), value.as_slice(), out)
         }
-        Reply::Missing { stamp } => put_frame(&[kind::MISSING], &stamp.to_le_bytes(), &[], out),
+        Reply::Missing { stamp } => put_frame(&[kind::MISSING], &u64_bytes(*stamp), &[], out),
         Reply::BadKey => put_frame(&[kind::BAD_KEY], &[], &[], out),
         Reply::TooLarge => put_frame(&[kind::TOO_LARGE], &[], &[], out),
         Reply::Full { class } => put_frame(&[kind::FULL, *class], &[], &[], out),
         Reply::NoMemory => put_frame(&[kind::NO_MEMORY], &[], &[], out),
         Reply::DiskFault => put_frame(&[kind::DISK_FAULT], &[], &[], out),
-        Reply::Unsure { stamp } => put_frame(&[kind::UNSURE], &stamp.to_le_bytes(), &[], out),
+        Reply::Unsure { stamp } => put_frame(&[kind::UNSURE], &u64_bytes(*stamp), &[], out),
         Reply::Closed => put_frame(&[kind::CLOSED], &[], &[], out),
         Reply::Malformed { offset } => put_frame(
             &[kind::MALFORMED],
-            &offset.to_le_bytes(),
+            &u64_bytes(*offset),
             &[],
             out,
         ),
@@ -68,7 +69,7 @@ fn put_frame(head: &[u8], first: &[u8], second: &[u8], out: &mut Vec<u8>) -> Res
     let length = head.len() + first.len() + second.len();
     out.clear();
     out.reserve(4 + length)?;
-    out.extend_from_slice(&(length as u32).to_le_bytes())?;
+    out.extend_from_slice(&u32_bytes(length as u32))?;
     out.extend_from_slice(head)?;
     out.extend_from_slice(first)?;
     out.extend_from_slice(second)?;

@@ -7,6 +7,7 @@ ghost use Rattle.kv_frames.specs.Parse.{IsReplyParsed, IsReplyFound, BeginsWithF
 
 use crate::cut::{Front, cut_front};
 use crate::kind;
+use crate::numbers::u64_in;
 use kv_base::{Bytes, NoMemory, Reply};
 use std::alloc::Global;
 
@@ -70,7 +71,7 @@ fn read_found(alloc: Global, body: &[u8]) -> Result<Option<Reply>, NoMemory>
         return Ok(None);
     };
     Ok(Some(Reply::Found {
-        stamp: u64::from_le_bytes(*stamp),
+        stamp: u64_in(stamp),
         value: Bytes::copy(alloc, value)?,
     }))
 }
@@ -128,7 +129,7 @@ fn read_number(body: &[u8]) -> Option<u64>
     ensures { result ≡ number_in body.now }
 {
     match body.split_first_chunk::<8>() {
-        Some((number, [])) => Some(u64::from_le_bytes(*number)),
+        Some((number, [])) => Some(u64_in(number)),
         _ => None,
     }
 }

@@ -1,4 +1,5 @@
 -- Lemmas on whole runs of the plain store.
+use Rattle.std.proofs.Common.{IsTrue}
 use Rattle.std.proofs.Common.{◌≡◌, ◌≢◌, ℕ, ◌+◌, ◌<◌, ◌≤◌, ◌^◌, Bool, true, false, List, []}
 use Rattle.std.proofs.Common.{◌∷◌, ◌++◌, map, Option, None, Some, IfSome, MatchOption, refl}
 use Rattle.std.proofs.Common.{sym, ap, subst, ◌∙◌, arith, append_assoc, ◌||◌}
@@ -19,12 +20,14 @@ use Rattle.kv_model.specs.Pairs.{Pair, acknowledged_by, key_of, stamp_of, stamps
 use Rattle.kv_model.specs.Agreement.{IsAnswer, IsMapAnswer, refusal_of}
 use Rattle.kv_model.specs.Order.{IsAfter, Rises}
 use Rattle.kv_serve.specs.Causes.{RoseBy, is_unsure, any_unsure, faults_told, faults_of}
+use Rattle.kv_serve.specs.Causes.{CountsStamps, faults_behind_all}
 use Rattle.kv_serve.specs.Causes.{ClosesBehindUnsure, AreFullAtLimit}
-use Rattle.kv_serve.specs.Store.{Holds, Steps, IsDurable}
+use Rattle.kv_serve.specs.Store.{Holds, Steps, IsDurable, OthersStay}
 use Rattle.kv_serve.specs.Run.{Runs}
 use Rattle.kv_serve.specs.Answers.{HasAnswers}
 use Rattle.kv_serve.specs.declared.store.Store.{Store}
 use Rattle.kv_serve.proofs.HistoryLemmas.{value_at-later}
+use Rattle.kv_serve.proofs.StoreLemmas.{has_items}
 
 -- the numbers rise, from low on and below high
 abbrev RisesWithin : ℕ → ℕ → List ℕ → Type 0
@@ -327,6 +330,35 @@ module _ {D : Type 0} {d : Ghosts D} where
         runs.1.closing (run_closes pairs runs.0 new runs.2),
   )
 
+  pub run_others : (pairs : List Pair) (old new : Store D d) → Runs Steps old pairs new
+      → IsTrue d.tells → OthersStay (d.seen old.disk) (d.seen new.disk)
+  run_others [] old new runs told = λ f p n. ap (λ (s : Store D d). d.seen s.disk f p) runs
+  run_others (pair ∷ pairs) old new runs told = λ f p n.
+      run_others pairs runs.0 new runs.2 told f p n ∙ runs.1.others told f p n
+
+  run_holds : (pairs : List Pair) (old new : Store D d) (history : List Write) → Holds old history
+      → Runs Steps old pairs new → Holds new (history ++ writes pairs)
+  run_holds [] old new history h runs = rw (append-nil history, runs) h
+  run_holds (pair ∷ pairs) old new history h runs =
+      subst (λ (all : List Write). Holds new all)
+      (append_first history (acknowledged_by pair.request pair.reply) (writes pairs))
+      (run_holds pairs runs.0 new (history ++ option_to_list (acknowledged_by pair.request
+      pair.reply)) (runs.1.holds history h) runs.2)
+
+  run_told : (pairs : List Pair) (old new : Store D d) → Runs Steps old pairs new
+      → d.faults new.disk ≡ faults_behind_all pairs (d.faults old.disk)
+  run_told [] old new runs = ap (λ (s : Store D d). d.faults s.disk) runs
+  run_told (pair ∷ pairs) old new runs =
+      run_told pairs runs.0 new runs.2 ∙ ap (faults_behind_all pairs) runs.1.told
+
+  run_counts : (pairs : List Pair) (old new : Store D d) → Runs Steps old pairs new
+      → CountsStamps old.next pairs
+  run_counts [] old new runs = tt
+  run_counts (pair ∷ pairs) old new runs = (
+    runs.1.carries,
+    subst (λ next. CountsStamps next pairs) runs.1.draws (run_counts pairs runs.0 new runs.2),
+  )
+
   run_faults : (pairs : List Pair) (old new : Store D d) → Runs Steps old pairs new
       → RoseBy (faults_of pairs) (d.faults old.disk) (d.faults new.disk)
   run_faults [] old new runs = rw runs (omega arith)
@@ -352,7 +384,7 @@ module _ {D : Type 0} {d : Ghosts D} where
 
   -- a run of a new store has its answers
   pub run_has_answers : (before : D) (pairs : List Pair) (old new : Store D d) → Holds old []
-      → old.next ≡ 1 → old.closed ≡ false → new.next ≤ 2 ^ 62 → d.faults before ≤ d.faults old.disk
+      → old.next ≡ 1 → old.closed ≡ false → new.next ≤ 2 ^ 62 → d.faults old.disk ≡ d.faults before
       → Runs Steps old pairs new → HasAnswers d before new.disk pairs
   run_has_answers before pairs old new h next unclosed limit faults runs =
       let rises = run_rises pairs old new runs in
@@ -372,4 +404,8 @@ module _ {D : Type 0} {d : Ghosts D} where
             (run_closes pairs old new runs);
         faults = omega (arith, faults, run_faults pairs old new runs);
         full = run_full pairs old new [] h runs;
+        items = λ sure t. has_items new (writes pairs) (run_holds pairs old new [] h runs)
+            (run_unsure pairs old new runs ∙ rw (unclosed, sure) refl) limit t;
+        exactly = run_told pairs old new runs ∙ ap (faults_behind_all pairs) faults;
+        counted = subst (λ next. CountsStamps next pairs) next (run_counts pairs old new runs);
       }

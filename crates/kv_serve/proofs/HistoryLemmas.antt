@@ -45,6 +45,27 @@ preferred_last None write h = refl
 preferred_last (Some other) write h =
     let e : nat_le write.stamp other.stamp ≡ false = grind (arith, nat_tests) in rw e refl
 
+-- a write behind all others is the latest from its stamp on
+pub latest-last : (history : List Write) (write : Write) (stamp : ℕ)
+    → AllByRecursion (λ other. other.stamp < write.stamp) history → write.stamp ≤ stamp
+    → latest (history ++ write ∷ []) stamp write.key ≡ Some write
+latest-last history write stamp below from =
+    let same : bytes_eq write.key write.key ≡ true =
+    (bytes_eq-Decides write.key write.key).1 refl in
+    let reached : nat_le write.stamp stamp ≡ true = grind (arith, nat_tests) in
+    latest-push history write stamp write.key
+    ∙ rw (same, reached) (ap Some (preferred_last (latest history stamp write.key) write
+    (latest_below history stamp write.key write.stamp below)))
+
+-- a write of one key isn't the latest of another
+pub latest-other : (history : List Write) (write : Write) (stamp : ℕ) (key : List ℕ)
+    → (write.key ≡ key → ⊥) → latest (history ++ write ∷ []) stamp key ≡ latest history stamp key
+latest-other history write stamp key apart =
+    let other : bytes_eq write.key key ≡ false =
+    ⊎_elim (λ y. absurd (apart ((bytes_eq-Decides write.key key).0 y))) (λ n. n)
+    (cases_Bool (bytes_eq write.key key)) in
+    latest-push history write stamp key ∙ rw other refl
+
 -- a write behind all others is read from its stamp on
 pub value_at-last : (history : List Write) (write : Write) (stamp : ℕ)
     → AllByRecursion (λ other. other.stamp < write.stamp) history → write.stamp ≤ stamp

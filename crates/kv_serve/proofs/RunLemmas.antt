@@ -12,6 +12,8 @@ use Rattle.kv_base.specs.declared.cause.Cause.{Cause}
 use Rattle.kv_base.specs.declared.cause.Cause.TheVariants.{End, Malformed, Limit, SourceFault}
 use Rattle.kv_base.specs.declared.cause.Cause.TheVariants.{SinkFault}
 use Rattle.kv_base.specs.Fault.{Rose}
+use Rattle.kv_base.specs.Calls.{next_count}
+use Rattle.kv_serve.specs.Run.{source_faults_for, sink_faults_for}
 use Rattle.kv_base.specs.Stream.{Passes, IsSpent, Takes}
 use Rattle.kv_model.specs.Pairs.{Pair}
 use Rattle.kv_model.specs.Frames.{HasRequestFrame, request_frame, HasReplyFrame, reply_frame}
@@ -276,6 +278,13 @@ Answers-room streams steps before now old mid new left p q =
       length-append old.waiting p.bytes,
     )
 
+not_sink : (cause : Cause) (n : ℕ) → cause ≢ SinkFault → n ≡ sink_faults_for cause n
+not_sink End n other = refl
+not_sink (Malformed offset) n other = refl
+not_sink Limit n other = refl
+not_sink SourceFault n other = refl
+not_sink SinkFault n other = absurd (other refl)
+
 -- a session ends with no reply of its own
 pub EndsBy-silent : {So Si : Type 0} (streams : Streams So Si) (s : SessionState So Si)
     (cause : Cause) → ((bytes : List ℕ) → length bytes ≡ s.taken
@@ -292,6 +301,7 @@ EndsBy-silent streams s cause closes leaves other = record {
   kept = record { source = refl; waiting = refl; taken = refl; ended = refl };
   sink_later = omega arith;
   sink_rose = λ e. absurd (other e);
+  sink_counted = not_sink cause (streams.sink_faults s.sink) other;
 }
 
 pub EndsBy-end : {So Si : Type 0} (streams : Streams So Si) (s : SessionState So Si)
@@ -328,8 +338,9 @@ pub EndsBy-told : {So Si : Type 0} (streams : Streams So Si) (old new : SessionS
     → HasReplyFrame (reply.Malformed offset)
     → Takes (streams.held old.sink) (streams.held new.sink) (reply_frame (reply.Malformed offset))
     → KeepsTaken old new → streams.sink_faults old.sink ≤ streams.sink_faults new.sink
+    → streams.sink_faults new.sink ≡ streams.sink_faults old.sink
     → EndsBy streams old new (Malformed offset) []
-EndsBy-told streams old new offset stuck at has took kept later = record {
+EndsBy-told streams old new offset stuck at has took kept later stood = record {
   closing = reply.Malformed offset ∷ [];
   given = reply_frame (reply.Malformed offset);
   framed = (has, tt);
@@ -344,6 +355,7 @@ EndsBy-told streams old new offset stuck at has took kept later = record {
   kept = kept;
   sink_later = later;
   sink_rose = λ e. absurd cc;
+  sink_counted = stood;
 }
 
 -- the client couldn't be told so
@@ -354,8 +366,9 @@ pub EndsBy-untold : {So Si : Type 0} (streams : Streams So Si) (old new : Sessio
     (reply_frame (reply.Malformed offset)) → KeepsTaken old new
     → streams.sink_faults old.sink ≤ streams.sink_faults new.sink
     → Rose (streams.sink_faults old.sink) (streams.sink_faults new.sink)
+    → streams.sink_faults new.sink ≡ next_count (streams.sink_faults old.sink)
     → EndsBy streams old new SinkFault (one ∷ [])
-EndsBy-untold streams old new offset one stuck at has is took kept later rose =
+EndsBy-untold streams old new offset one stuck at has is took kept later rose counted =
     let ends : EndsBy streams old new SinkFault (reply.Malformed offset ∷ []) = record {
       closing = reply.Malformed offset ∷ [];
       given = took.part;
@@ -370,6 +383,7 @@ EndsBy-untold streams old new offset one stuck at has is took kept later rose =
       kept = kept;
       sink_later = later;
       sink_rose = λ e. rose;
+      sink_counted = counted;
     } in
     subst (λ (r : Reply). EndsBy streams old new SinkFault (r ∷ [])) (sym is) ends
 
@@ -381,9 +395,12 @@ pub Ends-closed : {W So Si : Type 0} (streams : Streams So Si)
     → streams.source_faults old.source ≤ streams.source_faults mid.source
     → streams.sink_faults old.sink ≤ streams.sink_faults mid.sink
     → (cause ≡ SourceFault → Rose (streams.source_faults old.source)
-    (streams.source_faults mid.source)) → Ends streams steps before now old new cause left
+    (streams.source_faults mid.source))
+    → streams.source_faults mid.source ≡ source_faults_for cause (streams.source_faults old.source)
+    → streams.sink_faults mid.sink ≡ streams.sink_faults old.sink
+    → Ends streams steps before now old new cause left
 Ends-closed {So = So} streams steps before now old mid new cause left p q spent source_later
-    sink_later rose =
+    sink_later rose source_is sink_is =
     let same : streams.source_faults new.source ≡ streams.source_faults mid.source =
     ap (λ (source : So). streams.source_faults source) q.kept.source in
     record {
@@ -415,6 +432,8 @@ Ends-closed {So = So} streams steps before now old mid new cause left p q spent 
       source_rose = λ e. subst (λ (n : ℕ). Rose (streams.source_faults old.source) n) (sym same)
           (rose e);
       sink_rose = λ e. let h = q.sink_rose e in omega (arith, h, sink_later);
+      source_counted = same ∙ source_is;
+      sink_counted = q.sink_counted ∙ ap (sink_faults_for cause) sink_is;
     }
 
 -- a session whose sink failed within the reply to its last request
@@ -425,8 +444,11 @@ pub Ends-unsent : {W So Si : Type 0} (streams : Streams So Si)
     → streams.source_faults old.source ≤ streams.source_faults new.source
     → streams.sink_faults old.sink ≤ streams.sink_faults new.sink
     → Rose (streams.sink_faults old.sink) (streams.sink_faults new.sink)
+    → streams.source_faults new.source ≡ streams.source_faults old.source
+    → streams.sink_faults new.sink ≡ next_count (streams.sink_faults old.sink)
     → Ends streams steps before now old new SinkFault (one ∷ [])
-Ends-unsent streams steps before now old new one p spent source_later sink_later rose = record {
+Ends-unsent streams steps before now old new one p spent source_later sink_later rose source_is
+    sink_is = record {
   bytes = p.bytes;
   given = p.given;
   handled = p.handled;
@@ -451,4 +473,6 @@ Ends-unsent streams steps before now old new one p spent source_later sink_later
   sink_later = sink_later;
   source_rose = λ e. absurd cc;
   sink_rose = λ e. rose;
+  source_counted = source_is;
+  sink_counted = sink_is;
 }

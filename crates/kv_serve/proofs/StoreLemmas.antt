@@ -1,7 +1,7 @@
 -- Lemmas on the steps of the plain store.
 use Rattle.std.proofs.Common.{◌≡◌, ℕ, ◌+◌, ◌<◌, ◌≤◌, ◌^◌, ◌↔◌, Bool, true, false, List, []}
 use Rattle.std.proofs.Common.{◌∷◌, ◌++◌, Option, None, Some, IsTrue, IfSome, IsSome, length, refl}
-use Rattle.std.proofs.Common.{sym, ap, subst, ◌∙◌, arith, ⊎_elim, ◌||◌, ◌-◌}
+use Rattle.std.proofs.Common.{sym, ap, subst, ◌∙◌, arith, ⊎_elim, ◌||◌, ◌-◌, inl, inr}
 use Rattle.std.specs.List.{AllByRecursion}
 use Rattle.std.specs.Prelude.{is_some}
 use Rattle.std.specs.Str.{bytes_eq}
@@ -18,20 +18,21 @@ use Rattle.kv_base.specs.declared.reply.Reply.TheVariants.{Stored, Found, Missin
 use Rattle.kv_base.specs.declared.reply.Reply.TheVariants.{Full, NoMemory, DiskFault, Unsure}
 use Rattle.kv_base.specs.declared.reply.Reply.TheVariants.{Closed, Malformed}
 use Rattle.kv_disk.specs.declared.disk.Disk.{Ghosts}
-use Rattle.kv_model.specs.History.{Write, value_at}
+use Rattle.kv_model.specs.History.{Write, latest, value_at}
 use Rattle.kv_model.specs.Layout.{only_class, class_of}
 use Rattle.kv_model.specs.Pairs.{acknowledged_by, stamp_of}
 use Rattle.kv_model.specs.Agreement.{IsAnswer, IsMapAnswer, IsRead, refusal_of}
 use Rattle.kv_serve.specs.Pages.{place_of}
 use Rattle.kv_serve.specs.Placed.{IsPlaced, GivesPage, HasPlaces}
-use Rattle.kv_serve.specs.Content.{ReadsAs, IsFoundIn}
-use Rattle.kv_serve.specs.Causes.{RoseBy, is_unsure, faults_told, IsFullAtLimit}
+use Rattle.kv_serve.specs.Content.{ReadsAs, ReadsItem, IsFoundIn}
+use Rattle.kv_serve.specs.Causes.{RoseBy, is_unsure, faults_told, IsFullAtLimit, drawn, faults_behind}
 use Rattle.kv_serve.specs.Causes.{slot_limit, last_value, HasNoSlot}
-use Rattle.kv_serve.specs.Store.{Keeps, Holds, Steps, TakesCalls, IsDurable}
+use Rattle.kv_serve.specs.Store.{Keeps, Holds, Steps, TakesCalls, IsDurable, OthersStay, IsItemOf, HasItems}
 use Rattle.kv_disk.specs.Disk.{Same}
 use Rattle.kv_serve.specs.declared.store.Store.{Store}
 use Rattle.kv_disk.proofs.ImageLemmas.{with_page-here, with_page-other}
-use Rattle.kv_serve.proofs.HistoryLemmas.{value_at-last, value_at-other}
+use Rattle.kv_serve.proofs.HistoryLemmas.{value_at-last, value_at-other, latest-last}
+use Rattle.kv_serve.proofs.HistoryLemmas.{latest-other}
 use Rattle.kv_serve.proofs.PagesLemmas.{keys_fit}
 
 -- a map's answer to a request of good sizes is its answer
@@ -127,6 +128,9 @@ below_last : (history : List Write) (write : Write) (n : ℕ)
 below_last [] write n h last = (last, tt)
 below_last (other ∷ history) write n h last = (h.0, below_last history write n h.1 last)
 
+some_same : (m n : ℕ) → Some m ≡ Some n → m ≡ n
+some_same m n e = cc
+
 -- a read leaves a disk durable that is
 pub stays_durable : {D : Type 0} (d : Ghosts D) (old new : D)
     → ((f p : ℕ) (c : List ℕ) → d.leaves old (d.calls old) f p c → IsTrue d.tells)
@@ -147,6 +151,8 @@ module _ {D : Type 0} {d : Ghosts D} where
     kept = λ unclosed key stamp from. keeps_same d.tells (d.seen old.disk) (d.seen new.disk)
         (place_of new.pages key) key (value_at history stamp key) same
         (rw pages (h.kept (sym closed ∙ unclosed) key stamp (omega arith)));
+    items = λ unclosed t key stamp page from there. rw (same t) (h.items (sym closed ∙ unclosed) t key
+        stamp page (omega arith) (rw pages at there));
   }
 
   -- what a key has in the end is what its page keeps
@@ -155,6 +161,23 @@ module _ {D : Type 0} {d : Ghosts D} where
       → Keeps d.tells (d.seen store.disk) (place_of store.pages key) key (last_value history key)
   keeps_last store history key h unclosed small =
       h.kept unclosed key (2 ^ 62 - 1) (omega (arith, small))
+
+  item_at : (store : Store D d) (history : List Write) (key value : List ℕ) (place : Option ℕ)
+      → Holds store history → store.closed ≡ false → store.next ≤ 2 ^ 62 → IsTrue d.tells
+      → place_of store.pages key ≡ place → last_value history key ≡ Some value
+      → (page : ℕ) × IsItemOf (d.seen store.disk 7 page) key (latest history (2 ^ 62 - 1) key)
+  item_at store history key value None h unclosed small t e is =
+      let none = no_value d.tells (d.seen store.disk) (place_of store.pages key) key
+      (last_value history key) e (keeps_last store history key h unclosed small) in cc
+  item_at store history key value (Some page) h unclosed small t e is =
+      (page, h.items unclosed t key (2 ^ 62 - 1) page (omega (arith, small)) e)
+
+  -- each key that has a value stands on the disk
+  pub has_items : (store : Store D d) (history : List Write) → Holds store history
+      → store.closed ≡ false → store.next ≤ 2 ^ 62 → IsTrue d.tells
+      → HasItems (d.seen store.disk) history
+  has_items store history h unclosed small t key value is =
+      item_at store history key value (place_of store.pages key) h unclosed small t refl is
 
   -- each key with a page has a value
   each_has_value : (store : Store D d) (history : List Write) (keys : List (List ℕ))
@@ -221,9 +244,12 @@ module _ {D : Type 0} {d : Ghosts D} where
       → IfSome (stamp_of reply) (λ stamp. (old.next ≤ stamp) × (stamp < new.next))
       → RoseBy (faults_told reply) (d.faults old.disk) (d.faults new.disk)
       → TakesCalls reply (d.calls old.disk) (d.calls new.disk)
-      → (IsDurable d old.disk → IsDurable d new.disk) → Steps old request reply new
+      → (IsDurable d old.disk → IsDurable d new.disk)
+      → d.faults new.disk ≡ faults_behind reply (d.faults old.disk)
+      → new.next ≡ old.next + drawn reply
+      → IfSome (stamp_of reply) (λ stamp. stamp ≡ old.next) → Steps old request reply new
   steps_kept old new request reply good unclosed later same pages closed silent sure other answers
-      full stamped cause taken lasting = record {
+      full stamped cause taken lasting told draws carries = record {
         answers = λ history h. answer_from d.tells history request reply good (answers history h);
         holds = λ history h. rw silent (holds_nothing_more new history (holds_same old new history h
             later same pages closed));
@@ -235,6 +261,10 @@ module _ {D : Type 0} {d : Ghosts D} where
         durable = λ _. lasting;
         cause = cause;
         taken = taken;
+        others = λ t f p n. ap (λ (i : Image). i f p) (same t);
+        told = told;
+        draws = draws;
+        carries = carries;
       }
 
   -- a key without a page has no value
@@ -247,7 +277,8 @@ module _ {D : Type 0} {d : Ghosts D} where
       (λ t. ap d.seen disk) pages closed refl refl (λ e. cc)
       (λ history h. let k = h.kept unclosed key old.next (omega arith) in let n = rw nowhere at k in
       n)
-      (λ _ _. tt) (omega arith, omega (arith, next)) (rw disk (omega arith)) (ap d.calls disk) (λ h. rw disk h)
+      (λ _ _. tt) (omega arith, omega (arith, next)) (rw disk (omega arith)) (ap d.calls disk)
+      (λ h. rw disk h) (ap d.faults disk) next refl
 
   -- a read of the key's page
   pub steps_read : (old new : Store D d) (key : List ℕ) (page : ℕ) (content : List ℕ)
@@ -257,38 +288,39 @@ module _ {D : Type 0} {d : Ghosts D} where
       → new.closed ≡ old.closed
       → (IsTrue d.tells → content ≡ d.seen old.disk 7 page) → d.faults old.disk ≤ d.faults new.disk
       → d.calls new.disk ≡ next_count (d.calls old.disk) → IsFoundIn content key old.next reply
+      → d.faults new.disk ≡ d.faults old.disk
       → (IsDurable d old.disk → IsDurable d new.disk) → Steps old (Get key) reply new
   steps_read old new key page content (Found stamp value) good unclosed here next same pages closed
-      read faults calls found lasting =
+      read faults calls found stood lasting =
       steps_kept old new (Get key) (Found stamp value) good unclosed (omega (arith, next)) same
       pages closed refl refl (λ e. cc)
       (λ history h. let keeps = h.kept unclosed key stamp (omega (arith, found.0)) in
       let kept = rw here at keeps in read_kept d.tells (d.seen old.disk) page key
       (value_at history stamp key) value kept (λ t. rw (← read t) found.1))
       (λ _ _. tt) (omega (arith, found.0), omega (arith, found.0, next)) (omega arith) calls
-      lasting
+      lasting stood next found.0
   steps_read old new key page content NoMemory good unclosed here next same pages closed read faults
-      calls found lasting =
+      calls found stood lasting =
       steps_kept old new (Get key) NoMemory good unclosed (omega (arith, next)) same pages closed
-      refl refl (λ e. cc) (λ _ _. tt) (λ _ _. tt) tt (omega arith) tt lasting
+      refl refl (λ e. cc) (λ _ _. tt) (λ _ _. tt) tt (omega arith) (inr calls) lasting stood next tt
   steps_read old new key page content (Stored stamp) good unclosed here next same pages closed read
-      faults calls found lasting = absurd found
+      faults calls found stood lasting = absurd found
   steps_read old new key page content (Missing stamp) good unclosed here next same pages closed read
-      faults calls found lasting = absurd found
+      faults calls found stood lasting = absurd found
   steps_read old new key page content BadKey good unclosed here next same pages closed read faults
-      calls found lasting = absurd found
+      calls found stood lasting = absurd found
   steps_read old new key page content TooLarge good unclosed here next same pages closed read faults
-      calls found lasting = absurd found
+      calls found stood lasting = absurd found
   steps_read old new key page content (Full class) good unclosed here next same pages closed read
-      faults calls found lasting = absurd found
+      faults calls found stood lasting = absurd found
   steps_read old new key page content DiskFault good unclosed here next same pages closed read
-      faults calls found lasting = absurd found
+      faults calls found stood lasting = absurd found
   steps_read old new key page content (Unsure stamp) good unclosed here next same pages closed read
-      faults calls found lasting = absurd found
+      faults calls found stood lasting = absurd found
   steps_read old new key page content Closed good unclosed here next same pages closed read faults
-      calls found lasting = absurd found
+      calls found stood lasting = absurd found
   steps_read old new key page content (Malformed offset) good unclosed here next same pages closed
-      read faults calls found lasting = absurd found
+      read faults calls found stood lasting = absurd found
 
   -- a read that failed
   pub steps_read_failed : (old new : Store D d) (key : List ℕ) → refusal_of (only_class 7) (Get key)
@@ -296,11 +328,12 @@ module _ {D : Type 0} {d : Ghosts D} where
       → (IsTrue d.tells → d.seen new.disk ≡ d.seen old.disk) → new.pages.entries ≡ old.pages.entries
       → new.closed ≡ old.closed
       → RoseBy 1 (d.faults old.disk) (d.faults new.disk)
+      → d.faults new.disk ≡ next_count (d.faults old.disk)
       → d.calls new.disk ≡ next_count (d.calls old.disk)
       → (IsDurable d old.disk → IsDurable d new.disk) → Steps old (Get key) DiskFault new
-  steps_read_failed old new key good unclosed next same pages closed rose calls lasting =
+  steps_read_failed old new key good unclosed next same pages closed rose told calls lasting =
       steps_kept old new (Get key) DiskFault good unclosed (omega (arith, next)) same pages closed
-      refl refl (λ e. cc) (λ _ _. tt) (λ _ _. tt) tt rose calls lasting
+      refl refl (λ e. cc) (λ _ _. tt) (λ _ _. tt) tt rose calls lasting told next tt
 
   -- a put that has no slot
   pub steps_full : (old new : Store D d) (key value : List ℕ)
@@ -313,7 +346,7 @@ module _ {D : Type 0} {d : Ghosts D} where
   steps_full old new key value good fits unclosed next disk pages closed full =
       steps_kept old new (Put key value) (Full 7) good unclosed (omega (arith, next))
       (λ t. ap d.seen disk) pages closed refl refl (λ e. cc) (λ _ _. fits) full tt
-      (rw disk (omega arith)) (ap d.calls disk) (λ h. rw disk h)
+      (rw disk (omega arith)) (ap d.calls disk) (λ h. rw disk h) (ap d.faults disk) next tt
 
   -- a put that has no memory
   pub steps_no_memory : (old new : Store D d) (key value : List ℕ)
@@ -323,20 +356,24 @@ module _ {D : Type 0} {d : Ghosts D} where
   steps_no_memory old new key value good unclosed next disk pages closed =
       steps_kept old new (Put key value) NoMemory good unclosed (omega (arith, next))
       (λ t. ap d.seen disk) pages closed refl refl (λ e. cc) (λ _ _. tt) (λ _ _. tt) tt
-      (rw disk (omega arith)) tt (λ h. rw disk h)
+      (rw disk (omega arith)) (inl (ap d.calls disk)) (λ h. rw disk h) (ap d.faults disk) next tt
 
   -- a put whose write or sync failed
   pub steps_unsure : (old new : Store D d) (key value : List ℕ)
       → refusal_of (only_class 7) (Put key value) ≡ None → old.closed ≡ false
       → new.next ≡ old.next + 1 → new.closed ≡ true
       → RoseBy 1 (d.faults old.disk) (d.faults new.disk)
+      → TakesCalls (Unsure old.next) (d.calls old.disk) (d.calls new.disk)
+      → (IsTrue d.tells → OthersStay (d.seen old.disk) (d.seen new.disk))
+      → d.faults new.disk ≡ next_count (d.faults old.disk)
       → Steps old (Put key value) (Unsure old.next) new
-  steps_unsure old new key value good unclosed next closed rose = record {
+  steps_unsure old new key value good unclosed next closed rose taken others told = record {
     answers = λ history h. answer_from d.tells history (Put key value) (Unsure old.next) good tt;
     holds = λ history h. holds_nothing_more new history
         (record {
           below = below_more history old.next new.next (omega (arith, next)) h.below;
           kept = λ e. absurd (false≢true (sym e ∙ closed));
+          items = λ e. absurd (false≢true (sym e ∙ closed));
         });
     full = λ _ _. tt;
     stamped = (omega arith, omega (arith, next));
@@ -345,7 +382,11 @@ module _ {D : Type 0} {d : Ghosts D} where
     closing = rw unclosed closed;
     durable = λ e. absurd (false≢true (sym e ∙ closed));
     cause = rose;
-    taken = tt;
+    taken = taken;
+    others = others;
+    told = told;
+    draws = next;
+    carries = refl;
   }
 
   -- what the store holds after a put that is on disk
@@ -353,7 +394,7 @@ module _ {D : Type 0} {d : Ghosts D} where
       → Holds old history → old.closed ≡ false → new.next ≡ old.next + 1
       → GivesPage old.pages new.pages key page → IsPlaced new.pages
       → (IsTrue d.tells → d.seen new.disk ≡ with_page (d.seen old.disk) 7 page content)
-      → ReadsAs content key value
+      → ReadsItem content old.next key value
       → Holds new (history ++ record { stamp = old.next; key = key; value = Some value } ∷ [])
   holds_put old new key value content page history h unclosed next gives placed written reads =
       let write : Write = record { stamp = old.next; key = key; value = Some value } in
@@ -370,7 +411,7 @@ module _ {D : Type 0} {d : Ghosts D} where
             let here : d.seen new.disk 7 page ≡ content =
             ap (λ i. i 7 page) (written t)
             ∙ with_page-here (d.seen old.disk) 7 page content in
-            rw here reads)))
+            rw here (old.next, reads))))
             (λ n.
             let apart : key ≡ other → ⊥ = λ e.
             false≢true (sym n ∙ (bytes_eq-Decides key other).1 e) in
@@ -380,6 +421,32 @@ module _ {D : Type 0} {d : Ghosts D} where
             (λ e. apart (placed.apart key other page gives.here e))
             (rw (gives.others other apart) (h.kept unclosed other stamp
             (omega (arith, next, from))))))
+            (cases_Bool (bytes_eq key other));
+        items = λ _ t other stamp p from there.
+            ⊎_elim
+            (λ y. let same : key ≡ other = (bytes_eq-Decides key other).0 y in
+            let there_too : place_of new.pages key ≡ Some p =
+            subst (λ (k : List ℕ). place_of new.pages k ≡ Some p) (sym same) there in
+            let page_is : page ≡ p = some_same page p (sym gives.here ∙ there_too) in
+            subst (λ (k : List ℕ). IsItemOf (d.seen new.disk 7 p) k
+            (latest (history ++ write ∷ []) stamp k)) same
+            (subst (λ (q : ℕ). IsItemOf (d.seen new.disk 7 q) key
+            (latest (history ++ write ∷ []) stamp key)) page_is
+            (rw (latest-last history write stamp h.below (omega (arith, next, from)))
+            (let here : d.seen new.disk 7 page ≡ content =
+            ap (λ i. i 7 page) (written t)
+            ∙ with_page-here (d.seen old.disk) 7 page content in
+            rw here (value, refl, reads)))))
+            (λ n.
+            let apart : key ≡ other → ⊥ = λ e.
+            false≢true (sym n ∙ (bytes_eq-Decides key other).1 e) in
+            let stays : d.seen new.disk 7 p ≡ d.seen old.disk 7 p =
+            ap (λ i. i 7 p) (written t)
+            ∙ with_page-other (d.seen old.disk) 7 page content 7 p
+            (λ _ q. apart (placed.apart key other page gives.here (there ∙ ap Some q))) in
+            rw (latest-other history write stamp other apart, stays)
+            (h.items unclosed t other stamp p (omega (arith, next, from))
+            (sym (gives.others other apart) ∙ there)))
             (cases_Bool (bytes_eq key other));
       }
 
@@ -391,11 +458,12 @@ module _ {D : Type 0} {d : Ghosts D} where
       → (place_of old.pages key ≡ None → btree_map_len old.pages < 1048576)
       → GivesPage old.pages new.pages key page → IsPlaced new.pages
       → (IsTrue d.tells → d.seen new.disk ≡ with_page (d.seen old.disk) 7 page content)
-      → ReadsAs content key value → d.faults old.disk ≤ d.faults new.disk
+      → ReadsItem content old.next key value → d.faults old.disk ≤ d.faults new.disk
       → d.calls new.disk ≡ next_count (next_count (d.calls old.disk)) → IsDurable d new.disk
+      → d.faults new.disk ≡ d.faults old.disk
       → Steps old (Put key value) (Stored old.next) new
   steps_stored old new key value content page good unclosed closed next small was room gives placed
-      written reads faults calls settled = record {
+      written reads faults calls settled stood = record {
         answers = λ history h. answer_from d.tells history (Put key value) (Stored old.next) good tt;
         holds = λ history h. holds_put old new key value content page history h unclosed next gives
             placed written reads;
@@ -407,4 +475,9 @@ module _ {D : Type 0} {d : Ghosts D} where
         durable = λ _ _. settled;
         cause = omega arith;
         taken = calls;
+        others = λ t f p n. ap (λ (i : Image). i f p) (written t)
+            ∙ with_page-other (d.seen old.disk) 7 page content f p (λ e _. n e);
+        told = stood;
+        draws = next;
+        carries = refl;
       }

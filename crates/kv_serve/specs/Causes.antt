@@ -1,9 +1,10 @@
 -- What shows the cause of each refusal.
 use Rattle.std.specs.Prelude.{◌≡◌, ◌≢◌, ℕ, ◌+◌, ◌-◌, ◌^◌, ◌≤◌, ◌↔◌, ◌||◌, min, List, [], ◌∷◌, ◌++◌}
-use Rattle.std.specs.Prelude.{length, Option, None, IsSome, Bool, true, false, ⊤}
+use Rattle.std.specs.Prelude.{length, Option, None, IsSome, IfSome, Bool, true, false, ⊤}
 use Rattle.std.specs.List.{AllByRecursion}
 use Rattle.std.specs.Option.{option_to_list}
 use Rattle.kv_base.specs.declared.request.Request.{Request}
+use Rattle.kv_base.specs.Calls.{next_count}
 use Rattle.kv_base.specs.declared.reply.Reply.{Reply}
 use Rattle.kv_base.specs.declared.reply.Reply.TheVariants.{Stored, Found, Missing, BadKey, TooLarge}
 use Rattle.kv_base.specs.declared.reply.Reply.TheVariants.{Full, NoMemory, DiskFault, Unsure}
@@ -11,7 +12,7 @@ use Rattle.kv_base.specs.declared.reply.Reply.TheVariants.{Closed, Malformed}
 use Rattle.kv_model.specs.Pairwise.{Pairwise}
 use Rattle.kv_model.specs.History.{Write, value_at}
 use Rattle.kv_model.specs.Layout.{Layout}
-use Rattle.kv_model.specs.Pairs.{Pair, key_of, acknowledged_by}
+use Rattle.kv_model.specs.Pairs.{Pair, key_of, acknowledged_by, stamp_of}
 use Rattle.kv_model.specs.Agreement.{refusal_of}
 
 -- the count has risen by so many, or stands at the greatest number of its type
@@ -63,6 +64,45 @@ ClosesBehindUnsure layout closed [] = ⊤
 ClosesBehindUnsure layout closed (pair ∷ pairs) =
     ((pair.reply ≡ Closed) ↔ ((closed ≡ true) × (refusal_of layout pair.request ≡ None)))
     × ClosesBehindUnsure layout (closed || is_unsure pair.reply) pairs
+
+-- the count of the disk's faults behind this reply: DiskFault and Unsure tell of one each
+abbrev pub faults_behind : Reply → ℕ → ℕ
+faults_behind (Stored stamp) n = n
+faults_behind (Found stamp value) n = n
+faults_behind (Missing stamp) n = n
+faults_behind BadKey n = n
+faults_behind TooLarge n = n
+faults_behind (Full class) n = n
+faults_behind NoMemory n = n
+faults_behind DiskFault n = next_count n
+faults_behind (Unsure stamp) n = next_count n
+faults_behind Closed n = n
+faults_behind (Malformed offset) n = n
+
+-- the same behind all replies
+abbrev pub faults_behind_all : List Pair → ℕ → ℕ
+faults_behind_all [] n = n
+faults_behind_all (pair ∷ pairs) n = faults_behind_all pairs (faults_behind pair.reply n)
+
+-- how many stamps the request drew that has this reply
+abbrev pub drawn : Reply → ℕ
+drawn (Stored stamp) = 1
+drawn (Found stamp value) = 1
+drawn (Missing stamp) = 1
+drawn BadKey = 0
+drawn TooLarge = 0
+drawn (Full class) = 1
+drawn NoMemory = 1
+drawn DiskFault = 1
+drawn (Unsure stamp) = 1
+drawn Closed = 0
+drawn (Malformed offset) = 0
+
+-- each reply that carries a stamp carries the next one; each request but a refused one draws one
+abbrev pub CountsStamps : ℕ → List Pair → Type 0
+CountsStamps next [] = ⊤
+CountsStamps next (pair ∷ pairs) = IfSome (stamp_of pair.reply) (λ stamp. stamp ≡ next)
+    × CountsStamps (next + drawn pair.reply) pairs
 
 -- what the key has behind all writes of the history
 abbrev pub last_value : List Write → List ℕ → Option (List ℕ)

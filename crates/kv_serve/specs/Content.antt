@@ -7,6 +7,10 @@ use Rattle.kv_base.specs.declared.reply.Reply.TheVariants.{Closed, Malformed}
 use Rattle.kv_model.specs.Layout.{only_class}
 use Rattle.kv_model.specs.Slots.{Item, read_small}
 
+-- the page reads as an item of the key with this stamp and value
+abbrev pub ReadsItem : List ℕ → ℕ → List ℕ → List ℕ → Type 0
+ReadsItem content stamp key value = read_small (only_class 7) 7 (take 4096 content) ≡ Item stamp key value
+
 -- the page reads as an item of the key with the value
 abbrev pub ReadsAs : List ℕ → List ℕ → List ℕ → Type 0
 ReadsAs content key value = (stamp : ℕ) × (read_small (only_class 7) 7 (take 4096 content)

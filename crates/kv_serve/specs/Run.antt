@@ -4,7 +4,9 @@ use Rattle.std.specs.List.{AllByRecursion}
 use Rattle.kv_base.specs.declared.request.Request.{Request}
 use Rattle.kv_base.specs.declared.reply.Reply.{Reply}
 use Rattle.kv_base.specs.declared.cause.Cause.{Cause}
-use Rattle.kv_base.specs.declared.cause.Cause.TheVariants.{SourceFault, SinkFault}
+use Rattle.kv_base.specs.declared.cause.Cause.TheVariants.{End, Malformed, Limit, SourceFault}
+use Rattle.kv_base.specs.declared.cause.Cause.TheVariants.{SinkFault}
+use Rattle.kv_base.specs.Calls.{next_count}
 use Rattle.kv_base.specs.Fault.{Rose}
 use Rattle.kv_base.specs.Stream.{Stream, Passes, IsSpent, Takes}
 use Rattle.kv_model.specs.Pairs.{Pair}
@@ -68,6 +70,22 @@ pub record AnswersAll {W So Si : Type 0} (streams : Streams So Si)
   pub out : GoesOut replies given left
   pub runs : Runs steps before (pairs_of handled replies) now
 
+-- the count of the source's faults at the end of a session that ended for this cause
+abbrev pub source_faults_for : Cause → ℕ → ℕ
+source_faults_for End n = n
+source_faults_for (Malformed offset) n = n
+source_faults_for Limit n = n
+source_faults_for SourceFault n = next_count n
+source_faults_for SinkFault n = n
+
+-- the same of the sink
+abbrev pub sink_faults_for : Cause → ℕ → ℕ
+sink_faults_for End n = n
+sink_faults_for (Malformed offset) n = n
+sink_faults_for Limit n = n
+sink_faults_for SourceFault n = n
+sink_faults_for SinkFault n = next_count n
+
 -- a session ends behind its last request, for a cause that its bytes show, and what it replies then
 -- went out, or is left
 pub record EndsBy {So Si : Type 0} (streams : Streams So Si) (old new : SessionState So Si)
@@ -84,6 +102,7 @@ pub record EndsBy {So Si : Type 0} (streams : Streams So Si) (old new : SessionS
   pub sink_later : streams.sink_faults old.sink ≤ streams.sink_faults new.sink
   pub sink_rose : cause ≡ SinkFault → Rose (streams.sink_faults old.sink)
       (streams.sink_faults new.sink)
+  pub sink_counted : streams.sink_faults new.sink ≡ sink_faults_for cause (streams.sink_faults old.sink)
 
 -- what a session did from its first state to its last
 pub record Ends {W So Si : Type 0} (streams : Streams So Si)
@@ -105,6 +124,9 @@ pub record Ends {W So Si : Type 0} (streams : Streams So Si)
       → Rose (streams.source_faults old.source) (streams.source_faults new.source)
   pub sink_rose : cause ≡ SinkFault → Rose (streams.sink_faults old.sink)
       (streams.sink_faults new.sink)
+  pub source_counted : streams.source_faults new.source ≡ source_faults_for cause
+      (streams.source_faults old.source)
+  pub sink_counted : streams.sink_faults new.sink ≡ sink_faults_for cause (streams.sink_faults old.sink)
 
 -- a session from its first byte to its end: the bytes that it took, the requests in them, the
 -- worker's replies to them, what went out of these and what is left, and why it ended
@@ -129,3 +151,7 @@ pub record HasSession {W So Si : Type 0} (streams : Streams So Si)
       → Rose (streams.source_faults session.source) (streams.source_faults finished.source)
   pub sink_rose : finished.ending.cause ≡ SinkFault
       → Rose (streams.sink_faults session.sink) (streams.sink_faults finished.sink)
+  pub source_counted : streams.source_faults finished.source ≡ source_faults_for
+      finished.ending.cause (streams.source_faults session.source)
+  pub sink_counted : streams.sink_faults finished.sink ≡ sink_faults_for finished.ending.cause
+      (streams.sink_faults session.sink)

@@ -10,6 +10,7 @@ use Rattle.kv_base.specs.Fault.{Rose}
 use Rattle.kv_base.specs.Image.{with_page}
 use Rattle.kv_base.specs.Stream.{Passes, IsSpent, Takes}
 use Rattle.kv_disk.specs.declared.disk.Disk.{Ghosts}
+use Rattle.kv_disk.specs.Disk.{Same}
 use Rattle.kv_model.specs.Head.{head_page}
 use Rattle.kv_model.specs.Transcript.{HasTranscript}
 use Rattle.kv_site.specs.Held.{Held}
@@ -23,9 +24,9 @@ use Rattle.kv_serve.specs.declared.ended.Refused.TheVariants.{Disk, TakeDisk, Ta
 use Rattle.kv_serve.specs.declared.ended.Refused.TheVariants.{TakeReport}
 use Rattle.kv_serve.specs.declared.ended.Ended.{Ended}
 use Rattle.kv_serve.specs.Causes.{any_unsure}
-use Rattle.kv_serve.specs.Open.{IsBlank, IsUsed}
-use Rattle.kv_serve.specs.Run.{Streams, pairs_of}
-use Rattle.kv_serve.specs.Store.{IsDurable}
+use Rattle.kv_serve.specs.Open.{IsBlank, IsUsed, IsSpared}
+use Rattle.kv_serve.specs.Run.{Streams, pairs_of, source_faults_for, sink_faults_for}
+use Rattle.kv_serve.specs.Store.{IsDurable, OthersStay}
 use Rattle.kv_serve.specs.Answers.{HasAnswers}
 
 -- a session with its store, from its first byte to its end: what it took, handled, gave and left,
@@ -50,6 +51,10 @@ pub record Serves {D So Si : Type 0} (d : Ghosts D) (streams : Streams So Si) (d
       → Rose (streams.source_faults source) (streams.source_faults source')
   pub sink_rose : ending.cause ≡ SinkFault
       → Rose (streams.sink_faults sink) (streams.sink_faults sink')
+  pub source_counted : streams.source_faults source' ≡ source_faults_for ending.cause
+      (streams.source_faults source)
+  pub sink_counted : streams.sink_faults sink' ≡ sink_faults_for ending.cause
+      (streams.sink_faults sink)
 
 -- the cause is End
 abbrev pub is_end : Cause → Bool
@@ -110,9 +115,11 @@ pub record Opens {D : Type 0} (d : Ghosts D) (disk disk' : D) : Type 0 where
 
 -- why the disk wasn't opened
 abbrev pub OpenFails : {D : Type 0} → Ghosts D → D → D → OpenFault → Type 0
-OpenFails d disk disk' NotAStore = IsTrue d.tells → IsUsed (d.seen disk)
-    × (d.seen disk' ≡ d.seen disk)
+OpenFails d disk disk' NotAStore = (IsTrue d.tells → IsUsed (d.seen disk)
+    × (d.seen disk' ≡ d.seen disk))
+    × Same (d.leaves disk (d.calls disk)) (d.leaves disk' (d.calls disk'))
 OpenFails d disk disk' DiskFault = Rose (d.faults disk) (d.faults disk')
+    × (IsTrue d.tells → IsSpared (d.seen disk) (d.seen disk'))
 
 -- what a site tells, but for its disks: its streams, and what it holds and how often it failed
 -- before and after
@@ -127,7 +134,7 @@ pub record Outside (In Out Pages : Type 0) : Type 0 where
 -- why nothing was served: the status, and what shows the cause
 abbrev pub Refuses : {In Out Pages : Type 0} → Ghosts Pages → Outside In Out Pages → List ℕ → ℕ
     → Option Refused → Type 0
-Refuses {Pages = Pages} d o folder status None = (status ≡ 4)
+Refuses {Pages = Pages} d o folder status None = (status ≡ 4) × (o.faults' ≡ o.faults)
     × ((IsTrue o.tells → DisksKept o.before o.after) ⊎ ((disk : Pages) × (disk' : Pages)
     × (IsTrue o.tells → ReturnsDisk o.before o.after folder disk disk') × Opens d disk disk'))
 Refuses {Pages = Pages} d o folder status (Some (Disk worker fault)) = (status ≡ 3) × (worker ≡ 0)
@@ -153,6 +160,7 @@ pub record IsServed {In Out Pages : Type 0} (d : Ghosts Pages) (o : Outside In O
   pub disks : IsTrue o.tells → ReturnsDisk o.before o.after folder disk disk'
   pub sessions : IsTrue o.tells → ReturnsSession o.before o.after ends ends'
   pub serves : Serves d o.streams disk disk' ends.0 ends'.0 ends.1 ends'.1 ending unsure
+  pub others : IsTrue d.tells → OthersStay (with_page (d.seen disk) 0 0 (head_page 0 1)) (d.seen disk')
   pub durable : unsure ≡ false → IsDurable d disk'
   pub status_is : status ≡ served_status ending.cause unsure
 

@@ -3,6 +3,7 @@ use Rattle.std.specs.Prelude.{◌≡◌, ℕ, ◌+◌, ◌^◌, ◌<◌, ◌≤�
 use Rattle.std.specs.Prelude.{true, false}
 use Rattle.kv_base.specs.declared.request.Request.{Request}
 use Rattle.kv_base.specs.Fault.{Rose}
+use Rattle.kv_base.specs.Calls.{next_count}
 use Rattle.kv_base.specs.Stream.{Stream, Passes, Takes}
 use Rattle.kv_model.specs.Frames.{BeginsWithRequest, BeginsWithNoRequest, IsPartial, IsMalformed}
 use Rattle.kv_model.specs.Frames.{IsBad}
@@ -61,6 +62,14 @@ IsReady ready.End waiting ended taken before now = IsAtEnd waiting ended
 IsReady ready.Malformed waiting ended taken before now = IsStuck waiting ended
 IsReady ready.Limit waiting ended taken before now = GoesOn waiting ended × (taken ≡ 2 ^ 40)
 IsReady ready.SourceFault waiting ended taken before now = GoesOn waiting ended × Rose before now
+
+-- the count of the source's faults once this stands at the front
+abbrev pub faults_after : Ready → ℕ → ℕ
+faults_after ready.Request n = n
+faults_after ready.End n = n
+faults_after ready.Malformed n = n
+faults_after ready.Limit n = n
+faults_after ready.SourceFault n = next_count n
 
 -- a part of a frame or nothing stands at the front, and more bytes may be taken
 pub record NeedsMore (waiting : List ℕ) (ended : Bool) (taken : ℕ) : Type 0 where

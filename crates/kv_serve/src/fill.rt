@@ -1,9 +1,10 @@
-ghost use Rattle.std.specs.Prelude.{◌≡◌, ℕ, ◌≤◌, ◌^◌, true, MatchOption};
+ghost use Rattle.std.specs.Prelude.{◌≡◌, ◌≢◌, ℕ, ◌≤◌, ◌^◌, true, MatchOption, IfSome};
 ghost use Rattle.kv_base.specs.Stream.{IsSpent};
 ghost use Rattle.kv_model.specs.Frames.{BeginsWithNoRequest, IsPartial, IsMalformed};
 ghost use Rattle.kv_frames.specs.Parse.{IsWhole};
 ghost use Rattle.kv_frames.specs.View.{request_of};
 ghost use Rattle.kv_serve.specs.Session.{Arrives, HasRequest, IsReady, NeedsMore, StaysDecided};
+ghost use Rattle.kv_serve.specs.Session.{faults_after};
 
 use crate::session::Session;
 use kv_base::{Failed, Sink, Source};
@@ -35,6 +36,7 @@ impl<So: Source, Si: Sink> Session<So, Si> {
         ensures spent { self.new.ended ≡ true → IsSpent (So.stream self.new.source) }
         ensures limit { self.new.taken ≤ 2 ^ 40 }
         ensures later { So.faults self.old.source ≤ So.faults self.new.source }
+        ensures counted { So.faults self.new.source ≡ faults_after result (So.faults self.old.source) }
 
         // what stays
         ensures sink { self.new.sink ≡ self.old.sink }
@@ -57,6 +59,7 @@ impl<So: Source, Si: Sink> Session<So, Si> {
         ensures ready { MatchOption result (NeedsMore self.now.waiting self.now.ended
             self.now.taken) (λ ready. (n : ℕ) → IsReady ready self.now.waiting self.now.ended
             self.now.taken n n) }
+        ensures calm { IfSome result (λ ready. ready ≢ Ready.SourceFault) }
         ensures spent { self.now.ended ≡ true → IsSpent (So.stream self.now.source) }
         ensures limit { self.now.taken ≤ 2 ^ 40 }
     {
@@ -87,7 +90,8 @@ fn look_behind(waiting: &[u8], ended: bool, taken: u64) -> Option<Ready>
     requires none { BeginsWithNoRequest waiting.now }
     requires good { IsMalformed waiting.now → ⊥ }
     requires limit { taken ≤ 2 ^ 40 }
-    ensures { MatchOption result (NeedsMore waiting.now ended taken)
+    ensures calm { IfSome result (λ ready. ready ≢ Ready.SourceFault) }
+    ensures ready { MatchOption result (NeedsMore waiting.now ended taken)
         (λ ready. (n : ℕ) → IsReady ready waiting.now ended taken n n) }
 {
     if ended {

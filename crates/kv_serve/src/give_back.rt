@@ -10,6 +10,7 @@ pub fn give_disk_back<S: Site>(site: &mut S, disk: S::Pages)
         → IsTrue S.tells → TakesDisk before (S.holds site.old) folder 0 taken
         → BringsDisk before (S.holds site.new) folder taken disk }
     ensures later { S.faults site.old ≤ S.faults site.new }
+    ensures still { S.faults site.new ≡ S.faults site.old }
 {
     site.give_disk(0, disk);
 }
@@ -22,6 +23,7 @@ pub fn give_both_back<S: Site>(site: &mut S, source: S::In, sink: S::Out, disk: 
         → TakesSession between (S.holds site.old) 0 ends
         → BringsBoth before (S.holds site.new) folder taken disk ends (source, sink) }
     ensures later { S.faults site.old ≤ S.faults site.new }
+    ensures still { S.faults site.new ≡ S.faults site.old }
 {
     site.give_session(0, source, sink);
     site.give_disk(0, disk);

@@ -1,12 +1,13 @@
 ghost use Rattle.std.specs.Prelude.{◌≡◌, ℕ, ◌+◌, ◌-◌, ◌^◌, ◌<◌, ◌≤◌, List, length, take, IsTrue};
-ghost use Rattle.std.specs.Prelude.{OnOk};
+ghost use Rattle.std.specs.Prelude.{OnOk, OnErr, ◌⊎◌};
 ghost use Rattle.kv_base.specs.Calls.{next_count};
-ghost use Rattle.kv_base.specs.Fault.{HasCause};
+ghost use Rattle.kv_base.specs.Fault.{HasCause, Counted};
 ghost use Rattle.kv_base.specs.Image.{with_page};
 ghost use Rattle.kv_disk.specs.Disk.{Only};
 ghost use Rattle.kv_model.specs.Layout.{only_class};
 ghost use Rattle.kv_model.specs.Slots.{Item, read_small};
 ghost use Rattle.kv_model.specs.SlotBytes.{item_bytes};
+ghost use Rattle.kv_serve.specs.Store.{OthersStay};
 
 use kv_base::Failed;
 use kv_disk::Disk;
@@ -31,6 +32,10 @@ pub fn write_item<D: Disk>(
         (item_bytes 7 stamp key.now value.now)) }
     ensures durable { OnOk result (Only (D.seen disk.new) (D.leaves disk.new (D.calls disk.new))) }
     ensures calls { OnOk result (D.calls disk.new ≡ next_count (next_count (D.calls disk.old))) }
+    ensures others { IsTrue D.tells → OthersStay (D.seen disk.old) (D.seen disk.new) }
+    ensures failed { OnErr result ((D.calls disk.new ≡ next_count (D.calls disk.old))
+        ⊎ (D.calls disk.new ≡ next_count (next_count (D.calls disk.old)))) }
+    ensures counted { Counted (D.faults disk.old) (D.faults disk.new) result }
     ensures cause { HasCause (D.faults disk.old) (D.faults disk.new) result }
 {
     let mut content = [0; 4096];

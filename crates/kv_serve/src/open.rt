@@ -1,8 +1,9 @@
 ghost use Rattle.std.specs.Prelude.{◌≡◌, ℕ, ◌-◌, ◌^◌, ◌≤◌, ◌<◌, ◌↔◌, IsTrue, OnOk, Err};
-ghost use Rattle.kv_base.specs.Fault.{Rose, HasCause};
+ghost use Rattle.kv_base.specs.Fault.{Rose, HasCause, Counted};
 ghost use Rattle.kv_base.specs.Image.{with_page, zero_page};
 ghost use Rattle.kv_model.specs.Head.{head_page};
-ghost use Rattle.kv_serve.specs.Open.{IsBlank, IsUsed};
+ghost use Rattle.kv_disk.specs.Disk.{WrittenOrNot, Same};
+ghost use Rattle.kv_serve.specs.Open.{IsBlank, IsUsed, IsSpared};
 ghost use Rattle.kv_serve.specs.Store.{IsDurable};
 
 use kv_base::Failed;
@@ -39,6 +40,10 @@ pub fn make_store<D: Disk>(disk: &mut D) -> Result<(), OpenFault>
         → IsUsed (D.seen disk.old) }
     ensures kept { IsTrue D.tells → result ≡ Err OpenFault.NotAStore
         → D.seen disk.new ≡ D.seen disk.old }
+    ensures untouched { result ≡ Err OpenFault.NotAStore → Same (D.leaves disk.old (D.calls disk.old))
+        (D.leaves disk.new (D.calls disk.new)) }
+    ensures spared { IsTrue D.tells → IsSpared (D.seen disk.old) (D.seen disk.new) }
+    ensures counted { OnOk result (D.faults disk.new ≡ D.faults disk.old) }
     ensures later { D.faults disk.old ≤ D.faults disk.new }
     ensures disk_fault { result ≡ Err OpenFault.DiskFault
         → Rose (D.faults disk.old) (D.faults disk.new) }
@@ -57,7 +62,10 @@ fn check_file<D: Disk>(disk: &mut D, file: u8) -> Result<(), OpenFault>
         → D.seen disk.old file page ≡ zero_page) }
     ensures not_a_store { IsTrue D.tells → result ≡ Err OpenFault.NotAStore
         → IsUsed (D.seen disk.old) }
+    ensures untouched { Same (D.leaves disk.old (D.calls disk.old))
+        (D.leaves disk.new (D.calls disk.new)) }
     ensures kept { IsTrue D.tells → D.seen disk.new ≡ D.seen disk.old }
+    ensures counted { OnOk result (D.faults disk.new ≡ D.faults disk.old) }
     ensures later { D.faults disk.old ≤ D.faults disk.new }
     ensures disk_fault { result ≡ Err OpenFault.DiskFault
         → Rose (D.faults disk.old) (D.faults disk.new) }
@@ -76,7 +84,10 @@ fn check_page<D: Disk>(disk: &mut D, file: u8, page: u32) -> Result<(), OpenFaul
     ensures blank { IsTrue D.tells → OnOk result (D.seen disk.old file page ≡ zero_page) }
     ensures not_a_store { IsTrue D.tells → result ≡ Err OpenFault.NotAStore
         → IsUsed (D.seen disk.old) }
+    ensures untouched { Same (D.leaves disk.old (D.calls disk.old))
+        (D.leaves disk.new (D.calls disk.new)) }
     ensures kept { IsTrue D.tells → D.seen disk.new ≡ D.seen disk.old }
+    ensures counted { OnOk result (D.faults disk.new ≡ D.faults disk.old) }
     ensures later { D.faults disk.old ≤ D.faults disk.new }
     ensures disk_fault { result ≡ Err OpenFault.DiskFault
         → Rose (D.faults disk.old) (D.faults disk.new) }
@@ -101,7 +112,10 @@ fn is_blank(content: &[u8; 4096]) -> bool
 fn write_head<D: Disk>(disk: &mut D) -> Result<(), Failed>
     ensures head { IsTrue D.tells
         → OnOk result (D.seen disk.new ≡ with_page (D.seen disk.old) 0 0 (head_page 0 1)) }
+    ensures begun { IsTrue D.tells → WrittenOrNot 0 0 (head_page 0 1) (D.seen disk.old)
+        (D.seen disk.new) }
     ensures durable { OnOk result (IsDurable ⟦<D as Disk>⟧ disk.new) }
+    ensures counted { Counted (D.faults disk.old) (D.faults disk.new) result }
     ensures cause { HasCause (D.faults disk.old) (D.faults disk.new) result }
 {
     let mut content = [0; 4096];

@@ -1,8 +1,10 @@
 ghost use Rattle.std.specs.Prelude.{◌≡◌, ◌≢◌, ℕ, ◌+◌, ◌^◌, ◌<◌, ◌≤◌, [], ◌∷◌, ◌++◌, true, IfOk};
 ghost use Rattle.std.specs.Prelude.{MatchResult, option_to_list};
-ghost use Rattle.kv_base.specs.Fault.{HasCause, Rose};
+ghost use Rattle.kv_base.specs.Fault.{HasCause, Rose, Counted};
 ghost use Rattle.kv_base.specs.Stream.{IsSpent};
 ghost use Rattle.kv_serve.specs.Session.{IsNew, HasRequest, IsReady, IsStuck};
+ghost use Rattle.kv_serve.specs.Session.{faults_after};
+ghost use Rattle.kv_serve.specs.Run.{source_faults_for};
 ghost use Rattle.kv_serve.specs.Run.{Streams, Answers, AnswersAll, EndsBy, Ends, HasSession};
 
 use crate::ending::{Ending, Finished};
@@ -107,6 +109,10 @@ fn answer_all<W: Worker, So: Source, Si: Sink>(
     ensures spent { session.new.ended ≡ true → IsSpent (So.stream session.new.source) }
     ensures later { So.faults session.old.source ≤ So.faults session.new.source }
     ensures cause { HasCause (Si.faults session.old.sink) (Si.faults session.new.sink) result }
+    ensures sink_counted { Counted (Si.faults session.old.sink) (Si.faults session.new.sink) result }
+    ensures source_counted { MatchResult result
+        (λ ready. So.faults session.new.source ≡ faults_after ready (So.faults session.old.source))
+        (λ _. So.faults session.new.source ≡ So.faults session.old.source) }
     ensures less { W.room worker.old ≤ W.room worker.new + 2 ^ 40 }
 {
     loop {
@@ -138,6 +144,7 @@ fn answer_front<W: Worker, So: Source, Si: Sink>(
         session.old session.new []) (λ reply. Answers streams W.steps worker.old worker.new
         session.old session.new (reply ∷ [])) }
     ensures cause { HasCause (Si.faults session.old.sink) (Si.faults session.new.sink) result }
+    ensures sink_counted { Counted (Si.faults session.old.sink) (Si.faults session.new.sink) result }
     ensures less { W.room worker.old ≤ W.room worker.new + 1 }
 {
     let (request, length) = session.front();
@@ -162,6 +169,7 @@ fn close<So: Source, Si: Sink>(
         } in EndsBy streams session.old session.new result.0 (option_to_list result.1) }
     ensures rose { (before now : ℕ) → IsReady ready session.old.waiting session.old.ended
         session.old.taken before now → result.0 ≡ Cause.SourceFault → Rose before now }
+    ensures matched { (n : ℕ) → faults_after ready n ≡ source_faults_for result.0 n }
 {
     match ready {
         Ready::Request => unreachable!(),
@@ -182,6 +190,7 @@ fn close_malformed<So: Source, Si: Sink>(session: &mut Session<So, Si>) -> (Caus
           sink_faults = Si.faults;
         } in EndsBy streams session.old session.new result.0 (option_to_list result.1) }
     ensures other { result.0 ≢ Cause.SourceFault }
+    ensures calm { (n : ℕ) → n ≡ source_faults_for result.0 n }
 {
     let offset = session.taken() - session.waiting().len() as u64;
     match session.deliver(Reply::Malformed { offset }) {

@@ -1,5 +1,5 @@
 ghost use Rattle.std.specs.Prelude.{◌≡◌, ◌<◌, ◌≤◌, ◌+◌, OnOk, OnErr, length};
-ghost use Rattle.kv_base.specs.Fault.{HasCause};
+ghost use Rattle.kv_base.specs.Fault.{HasCause, Counted};
 ghost use Rattle.kv_base.specs.Stream.{Takes};
 ghost use Rattle.kv_serve.specs.Session.{TakesPart};
 
@@ -10,6 +10,7 @@ pub fn send<Si: Sink>(sink: &mut Si, bytes: &[u8]) -> Result<(), Failed>
     ensures ok { OnOk result (Takes (Si.held sink.old) (Si.held sink.new) bytes.now) }
     ensures err { OnErr result (TakesPart (Si.held sink.old) (Si.held sink.new) bytes.now) }
     ensures cause { HasCause (Si.faults sink.old) (Si.faults sink.new) result }
+    ensures counted { Counted (Si.faults sink.old) (Si.faults sink.new) result }
 {
     let mut sent = 0;
     while sent < bytes.len() {

@@ -1,8 +1,8 @@
-ghost use Rattle.std.specs.Prelude.{◌≡◌, ◌^◌, ◌≤◌, ◌<◌, [], ◌∷◌, None, Some, true, false, length};
+ghost use Rattle.std.specs.Prelude.{◌≡◌, ◌^◌, ◌≤◌, ◌<◌, [], ◌∷◌, None, Some, true, false, length, IsTrue};
 ghost use Rattle.kv_serve.specs.Session.{IsNew};
 ghost use Rattle.kv_serve.specs.Run.{Streams};
 ghost use Rattle.kv_serve.specs.Serve.{Serves, served_status};
-ghost use Rattle.kv_serve.specs.Store.{Holds, IsDurable};
+ghost use Rattle.kv_serve.specs.Store.{Holds, IsDurable, OthersStay};
 
 use crate::ending::{Ending, Finished};
 use crate::runs::run;
@@ -41,6 +41,7 @@ pub fn serve_one<D: Disk, So: Source, Si: Sink>(
     } in
         Serves ⟦<D as Disk>⟧ streams store.disk result.disk session.source result.source
         session.sink result.sink result.ending result.unsure }
+    ensures others { IsTrue D.tells → OthersStay (D.seen store.disk) (D.seen result.disk) }
     ensures durable { IsDurable ⟦<D as Disk>⟧ store.disk → result.unsure ≡ false
         → IsDurable ⟦<D as Disk>⟧ result.disk }
 {

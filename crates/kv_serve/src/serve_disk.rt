@@ -30,7 +30,7 @@ pub fn serve_disk<S: Site>(
     requires spare { 0 < undelivered.spare }
     ensures { (before : Held S.In S.Out S.Pages) (folder : List ℕ) (n : ℕ)
         → (IsTrue S.tells → TakesDisk before (S.holds site.old) folder 0 disk)
-        → n ≤ S.faults site.old →
+        → n ≡ S.faults site.old →
         let o : Outside S.In S.Out S.Pages = record {
           streams = record {
             stream = ⟦<S::In as Source>⟧.stream;
@@ -77,8 +77,8 @@ fn serve_store<S: Site>(
     ensures { (before : Held S.In S.Out S.Pages) (folder : List ℕ) (n : ℕ) (taken : S.Pages)
         → (IsTrue S.tells → TakesDisk before (S.holds site.old) folder 0 taken)
         → Opens ⟦<S::Pages as Disk>⟧ taken store.disk
-        → ⟦<S::Pages as Disk>⟧.faults taken ≤ ⟦<S::Pages as Disk>⟧.faults store.disk
-        → n ≤ S.faults site.old →
+        → ⟦<S::Pages as Disk>⟧.faults store.disk ≡ ⟦<S::Pages as Disk>⟧.faults taken
+        → n ≡ S.faults site.old →
         let o : Outside S.In S.Out S.Pages = record {
           streams = record {
             stream = ⟦<S::In as Source>⟧.stream;
@@ -146,7 +146,8 @@ fn serve_session<S: Site>(
         → (IsTrue S.tells → TakesDisk before between folder 0 taken)
         → (IsTrue S.tells → TakesSession between (S.holds site.old) 0 (source, sink))
         → Opens ⟦<S::Pages as Disk>⟧ taken store.disk
-        → ⟦<S::Pages as Disk>⟧.faults taken ≤ ⟦<S::Pages as Disk>⟧.faults store.disk →
+        → ⟦<S::Pages as Disk>⟧.faults store.disk ≡ ⟦<S::Pages as Disk>⟧.faults taken
+        → n ≡ S.faults site.old →
         let o : Outside S.In S.Out S.Pages = record {
           streams = record {
             stream = ⟦<S::In as Source>⟧.stream;

@@ -1,6 +1,6 @@
 ghost use Rattle.std.specs.Prelude.{◌≡◌, ◌<◌, ◌≤◌, ◌-◌, ◌+◌, ◌^◌, true, false, length, drop, IfOk};
 ghost use Rattle.std.specs.Prelude.{IfErr, OnOk, OnErr, MatchResult};
-ghost use Rattle.kv_base.specs.Fault.{HasCause};
+ghost use Rattle.kv_base.specs.Fault.{HasCause, Counted};
 ghost use Rattle.kv_base.specs.Stream.{IsSpent, Takes};
 ghost use Rattle.kv_model.specs.Frames.{HasReplyFrame, reply_frame};
 ghost use Rattle.kv_serve.specs.Session.{IsNew, Arrives, KeepsTaken, TakesPart};
@@ -130,6 +130,7 @@ impl<So: Source, Si: Sink> Session<So, Si> {
         ensures sink { self.new.sink ≡ self.old.sink }
         ensures spent { self.new.ended ≡ true → IsSpent (So.stream self.new.source) }
         ensures cause { HasCause (So.faults self.old.source) (So.faults self.new.source) result }
+        ensures counted { Counted (So.faults self.old.source) (So.faults self.new.source) result }
     {
         let left = (MOST_TAKEN - self.taken) as usize;
         match self.window.read_from(&mut self.source, left) {
@@ -153,6 +154,7 @@ impl<So: Source, Si: Sink> Session<So, Si> {
             × TakesPart (Si.held self.old.sink) (Si.held self.new.sink) (reply_frame reply)) }
         ensures kept { KeepsTaken self.old self.new }
         ensures cause { HasCause (Si.faults self.old.sink) (Si.faults self.new.sink) result }
+        ensures counted { Counted (Si.faults self.old.sink) (Si.faults self.new.sink) result }
     {
         put_reply(&reply, &mut self.frame).unwrap();
         match send(&mut self.sink, self.frame.as_slice()) {

@@ -1,6 +1,6 @@
 ghost use Rattle.std.specs.Prelude.{◌≡◌, ◌≤◌, ◌<◌, ◌-◌, [], Ok, length, take, drop, MatchResult};
 ghost use Rattle.std.specs.Prelude.{IfOk, vec_len};
-ghost use Rattle.kv_base.specs.Fault.{HasCause};
+ghost use Rattle.kv_base.specs.Fault.{HasCause, Counted};
 ghost use Rattle.kv_base.specs.Stream.{IsSpent};
 ghost use Rattle.kv_serve.specs.Session.{Arrives};
 
@@ -71,6 +71,7 @@ impl Window {
             (λ _. Arrives (So.stream source.old) (So.stream source.new) self.old self.new 0 0) }
         ensures end { result ≡ Ok 0 → IsSpent (So.stream source.new) }
         ensures cause { HasCause (So.faults source.old) (So.faults source.new) result }
+        ensures counted { Counted (So.faults source.old) (So.faults source.new) result }
     {
         compact(&mut self.buffer, &mut self.start, &mut self.end);
         let room = most.min(ROOM - self.end);

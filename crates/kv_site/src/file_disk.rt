@@ -1,7 +1,7 @@
 ghost use Rattle.std.specs.Prelude.{◌≡◌, ◌≤◌, ◌<◌, ◌-◌, ◌*◌, ◌^◌, ℕ, true, false, Ok, IsErr};
 ghost use Rattle.std.specs.Prelude.{replicate, set, vec_len, IsTrue, IfOk, OnOk, OnErr};
 ghost use Rattle.kv_base.specs.Calls.{next_count};
-ghost use Rattle.kv_base.specs.Fault.{HasCause};
+ghost use Rattle.kv_base.specs.Fault.{HasCause, Counted};
 ghost use Rattle.kv_disk.specs.Disk.{Advances};
 ghost use Rattle.kv_disk.specs.Plain.{no_choices};
 ghost use Rattle.kv_site.specs.FileMarks.{SameMarks, IsSynced, HasUnsynced, untold};
@@ -156,6 +156,7 @@ impl Disk for FileDisk {
         requires page { page < 2 ^ 32 - 1 }
         ensures past { Advances self.old.calls self.new.calls no_choices no_choices }
         ensures cause { HasCause self.old.faults self.new.faults result }
+        ensures counted { Counted self.old.faults self.new.faults result }
 
         // what the next sync covers
         ensures kept { SameMarks self.old self.new }
@@ -172,6 +173,7 @@ impl Disk for FileDisk {
         requires page { page < 2 ^ 32 - 1 }
         ensures past { Advances self.old.calls self.new.calls no_choices no_choices }
         ensures cause { HasCause self.old.faults self.new.faults result }
+        ensures counted { Counted self.old.faults self.new.faults result }
 
         // what the next sync covers
         ensures marked { self.new.unsynced ≡ set self.old.unsynced file true }
@@ -188,6 +190,7 @@ impl Disk for FileDisk {
     fn sync(&mut self) -> Result<(), Failed>
         ensures past { Advances self.old.calls self.new.calls no_choices no_choices }
         ensures cause { HasCause self.old.faults self.new.faults result }
+        ensures counted { Counted self.old.faults self.new.faults result }
 
         // what the next sync covers
         ensures done { OnOk result (IsSynced self.new) }
@@ -204,6 +207,7 @@ impl Disk for FileDisk {
         requires { file ≤ 13 }
         ensures past { Advances self.old.calls self.new.calls no_choices no_choices }
         ensures cause { HasCause self.old.faults self.new.faults result }
+        ensures counted { Counted self.old.faults self.new.faults result }
 
         // what the next sync covers
         ensures kept { SameMarks self.old self.new }

@@ -83,7 +83,7 @@ impl Site for FileSite {
     }
 
     fn give_session(&mut self, _number: u32, _source: Self::In, _sink: Self::Out)
-        ensures kept { self.new ≡ self.old }
+        ensures still { self.new ≡ self.old }
     {}
 
     fn take_disk(&mut self, folder: &str, worker: u32) -> Result<Self::Pages, TakeFault>
@@ -95,17 +95,18 @@ impl Site for FileSite {
     }
 
     fn give_disk(&mut self, _worker: u32, _disk: Self::Pages)
-        ensures kept { self.new ≡ self.old }
+        ensures still { self.new ≡ self.old }
     {}
 
     fn take_report(&mut self) -> Result<Self::Out, TakeFault>
         ensures ok { IsOk result }
+        ensures counted { Counts self.old self.new result }
         ensures kept { self.new ≡ self.old }
     {
         Ok(WriterSink::new(Output::Standard(self.rt.stdout())))
     }
 
     fn give_report(&mut self, _sink: Self::Out)
-        ensures kept { self.new ≡ self.old }
+        ensures still { self.new ≡ self.old }
     {}
 }

@@ -2,6 +2,7 @@ ghost use Rattle.std.specs.Prelude.{◌≡◌, ◌≤◌, true, false, [], None,
 ghost use Rattle.std.specs.Prelude.{OnErr};
 ghost use Rattle.std.specs.Option.{option_copied, option_map};
 ghost use Rattle.kv_base.specs.Fault.{Rose};
+ghost use Rattle.kv_site.specs.FileSite.{Counts};
 ghost use Rattle.kv_site.specs.Held.{nothing_held, TakesSession, GivesSession, TakesDisk};
 ghost use Rattle.kv_site.specs.Held.{GivesDisk, TakesReport, GivesReport};
 ghost use Rattle.kv_site.specs.MemorySite.{held_by, Refuses, SameCounts, PutsSession, PutsDisk};
@@ -162,6 +163,7 @@ impl Site for MemSite {
         ensures kept { IsTrue true → OnErr result ((held_by self.new) ≡ (held_by self.old)) }
         ensures later { self.old.faults ≤ self.new.faults }
         ensures cause { result ≡ Err TakeFault.Failed → Rose self.old.faults self.new.faults }
+        ensures counted { Counts self.old.faults self.new.faults result }
 
         // exactly when it fails
         ensures exact { Refuses self.old self.new ((held_by self.old).sessions number) result }
@@ -178,6 +180,7 @@ impl Site for MemSite {
         ensures given { IsTrue true → GivesSession (held_by self.old) (held_by self.new) number
             (source, sink) }
         ensures later { self.old.faults ≤ self.new.faults }
+        ensures still { self.new.faults ≡ self.old.faults }
         ensures counts { SameCounts self.old self.new }
     {
         self.sessions.give(number, (source, sink));
@@ -189,6 +192,7 @@ impl Site for MemSite {
         ensures kept { IsTrue true → OnErr result ((held_by self.new) ≡ (held_by self.old)) }
         ensures later { self.old.faults ≤ self.new.faults }
         ensures cause { result ≡ Err TakeFault.Failed → Rose self.old.faults self.new.faults }
+        ensures counted { Counts self.old.faults self.new.faults result }
 
         // exactly when it fails
         ensures exact { Refuses self.old self.new ((held_by self.old).disks folder.now worker)
@@ -205,6 +209,7 @@ impl Site for MemSite {
     fn give_disk(&mut self, worker: u32, disk: MemDisk)
         ensures given { IsTrue true → GivesDisk (held_by self.old) (held_by self.new) worker disk }
         ensures later { self.old.faults ≤ self.new.faults }
+        ensures still { self.new.faults ≡ self.old.faults }
         ensures counts { SameCounts self.old self.new }
     {
         self.disks.give(worker, disk);
@@ -216,6 +221,7 @@ impl Site for MemSite {
         ensures kept { IsTrue true → OnErr result ((held_by self.new) ≡ (held_by self.old)) }
         ensures later { self.old.faults ≤ self.new.faults }
         ensures cause { result ≡ Err TakeFault.Failed → Rose self.old.faults self.new.faults }
+        ensures counted { Counts self.old.faults self.new.faults result }
 
         // exactly when it fails
         ensures exact { Refuses self.old self.new self.old.report result }
@@ -232,6 +238,7 @@ impl Site for MemSite {
     fn give_report(&mut self, sink: MemSink)
         ensures given { IsTrue true → GivesReport (held_by self.old) (held_by self.new) sink }
         ensures later { self.old.faults ≤ self.new.faults }
+        ensures still { self.new.faults ≡ self.old.faults }
         ensures counts { SameCounts self.old self.new }
     {
         if self.report_lent {

@@ -7,6 +7,8 @@ ghost use Rattle.kv_slot.specs.Heads.{IsReadAs};
 
 use crate::numbers::u16_at;
 use crate::overwrite::{clear_from, put_at};
+use byteorder::{ByteOrder, LittleEndian};
+use kv_lanes::same;
 
 const MAGIC: [u8; 8] = *b"KVPAGED1";
 
@@ -48,9 +50,9 @@ fn fill_head(page: &mut [u8], worker: u32, workers: u32)
         worker ++ to_le_bytes w16 workers) }
 {
     put_at(page, 0, &MAGIC);
-    put_at(page, 8, &FORMAT.to_le_bytes());
-    put_at(page, 10, &(worker as u16).to_le_bytes());
-    put_at(page, 12, &(workers as u16).to_le_bytes());
+    LittleEndian::write_u16(&mut page[8..], FORMAT);
+    LittleEndian::write_u16(&mut page[10..], worker as u16);
+    LittleEndian::write_u16(&mut page[12..], workers as u16);
     clear_from(page, 14);
 }
 
@@ -83,7 +85,7 @@ fn field(page: &[u8], offset: usize) -> u32
 fn is_zero(page: &[u8; 4096]) -> bool
     ensures { IsTrue result ↔ (page.now ≡ zero_page) }
 {
-    same(page, &[0; 4096])
+    kv_lanes::is_zero(page)
 }
 
 fn is_head(page: &[u8; 4096], worker: u32, workers: u32) -> bool
@@ -95,10 +97,4 @@ fn is_head(page: &[u8; 4096], worker: u32, workers: u32) -> bool
     let mut head = [0; 4096];
     put_head(&mut head, worker, workers);
     same(page, &head)
-}
-
-fn same(a: &[u8], b: &[u8]) -> bool
-    ensures { IsTrue result ↔ (a.now ≡ b.now) }
-{
-    a == b
 }

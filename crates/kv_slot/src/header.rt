@@ -3,7 +3,7 @@ ghost use Rattle.kv_model.specs.SlotBytes.{header_bytes};
 ghost use Rattle.kv_model.specs.Slots.{stamp_field, kind_field, key_length_field, last_field};
 
 use crate::numbers::{u16_at, u32_at, u64_at};
-use crate::overwrite::put_at;
+use byteorder::{ByteOrder, LittleEndian};
 
 /// The bytes of a header.
 pub const HEADER: usize = 16;
@@ -51,8 +51,8 @@ pub fn put_header(slot: &mut [u8], stamp: u64, kind: u16, key_len: u16, last: u3
     requires { 16 ≤ length slot.old }
     ensures { slot.new ≡ header_bytes stamp kind key_len last ++ drop 16 slot.old }
 {
-    put_at(slot, 0, &stamp.to_le_bytes());
-    put_at(slot, 8, &kind.to_le_bytes());
-    put_at(slot, 10, &key_len.to_le_bytes());
-    put_at(slot, 12, &last.to_le_bytes());
+    LittleEndian::write_u64(slot, stamp);
+    LittleEndian::write_u16(&mut slot[8..], kind);
+    LittleEndian::write_u16(&mut slot[10..], key_len);
+    LittleEndian::write_u32(&mut slot[12..], last);
 }

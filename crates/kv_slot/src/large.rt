@@ -13,6 +13,7 @@ use crate::header::{HEADER, ITEM, NEVER, TOMBSTONE, read_header};
 use crate::overwrite::{clear_from, put_at};
 use crate::small::fill_item;
 use crate::tombstone::{link_in, page_stamp};
+use byteorder::{ByteOrder, LittleEndian};
 use kv_base::{Bytes, NoMemory, ReservedList};
 use std::alloc::Global;
 
@@ -265,7 +266,7 @@ fn fill_later(page: &mut [u8], stamp: u64, part: &[u8])
     requires page { length page.old ≡ 4096 }
     ensures { page.new ≡ padded 4096 (to_le_bytes w64 stamp ++ part.now) }
 {
-    put_at(page, 0, &stamp.to_le_bytes());
+    LittleEndian::write_u64(page, stamp);
     put_at(page, 8, part);
     clear_from(page, 8 + part.len());
 }

@@ -1,11 +1,14 @@
 -- The files so far are zero, and nothing has changed.
 use Rattle.std.proofs.Common.{◌≡◌, ℕ, ◌<◌, ◌≤◌, IsTrue}
 use Rattle.kv_base.specs.Image.{zero_page}
+use Rattle.kv_disk.specs.Disk.{Same}
 use Rattle.kv_serve.proofs.open.make_store.Given as goal
 
 abbrev pub invariant-loop-file : goal.invariant-loop-file
 invariant-loop-file g l =
     (IsTrue g.D.Disk.tells → g.D.Disk.seen l.disk ≡ g.D.Disk.seen l.initial.disk)
-    × (g.D.Disk.faults l.initial.disk ≤ g.D.Disk.faults l.disk)
+    × (g.D.Disk.faults l.disk ≡ g.D.Disk.faults l.initial.disk)
     × (IsTrue g.D.Disk.tells → (file page : ℕ) → file < l.file
     → g.D.Disk.seen l.initial.disk file page ≡ zero_page)
+    × Same (g.D.Disk.leaves l.initial.disk (g.D.Disk.calls l.initial.disk))
+    (g.D.Disk.leaves l.disk (g.D.Disk.calls l.disk))

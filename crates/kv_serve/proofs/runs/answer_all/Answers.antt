@@ -1,4 +1,5 @@
-use Rattle.std.proofs.Common.{arith, ap, List, ℕ, length}
+use Rattle.std.proofs.Common.{arith, ap, List, ℕ, length, refl, ◌∙◌}
+use Rattle.kv_serve.specs.Session.{faults_after}
 use Rattle.kv_serve.proofs.RunLemmas.{AnswersAll-new, AnswersAll-arrives, AnswersAll-answers}
 use Rattle.kv_serve.proofs.RunLemmas.{Answers-room, IsReady-earlier}
 use Rattle.kv_serve.proofs.runs.answer_all.Goals as goal
@@ -7,8 +8,8 @@ pub loop-worker-init : goal.loop-worker-init
 loop-worker-init g c = (
   AnswersAll-new _ _ _ _ c.requires.new,
   omega (arith, ap (λ (xs : List ℕ). length xs) c.requires.new.none_waits),
-  omega arith,
-  omega arith,
+  refl,
+  refl,
 )
 
 -- each request uses up bytes, of which no more than 2^40 come
@@ -26,19 +27,10 @@ loop-worker-preserved g c =
     c.in-Ok.ensures.answers in (
       AnswersAll-answers _ _ _ _ _ _ _ _ _ all c.in-Ok.ensures.answers,
       omega (arith, room, c.loop-worker.invariant.1, c.in-Ok.ensures.less),
-      omega (
-        arith,
-        c.loop-worker.invariant.2,
-        c.fill-ready.ensures.later,
-        ap g.So.Source.faults
-            c.in-Ok.ensures.answers.source,
-      ),
-      omega (
-        arith,
-        c.loop-worker.invariant.3,
-        ap g.Si.Sink.faults c.fill-ready.ensures.sink,
-        c.in-Ok.ensures.cause.later,
-      ),
+      ap g.So.Source.faults c.in-Ok.ensures.answers.source
+          ∙ ((rw c.in-Request.is at c.fill-ready.ensures.counted) ∙ c.loop-worker.invariant.2),
+      c.in-Ok.ensures.sink_counted
+          ∙ (ap g.Si.Sink.faults c.fill-ready.ensures.sink ∙ c.loop-worker.invariant.3),
     )
 
 pub returns-in-Err-clause-all : goal.returns-in-Err-clause-all
@@ -54,7 +46,9 @@ returns-in_default g c =
     record {
       all = AnswersAll-arrives _ _ _ _ _ _ _ inv.0 p.arrives p.sink;
       last = c.in_default.not-Request;
-      ready = IsReady-earlier _ _ _ _ _ _ _ inv.2 p.ready;
+      ready = IsReady-earlier _ _ _ _ _ _ _ (omega (arith, inv.2)) p.ready;
+      sink_counted = ap g.Si.Sink.faults p.sink ∙ inv.3;
+      source_counted = p.counted ∙ ap (faults_after c.fill-ready.result) inv.2;
       spent = p.spent;
       later = omega (arith, inv.2, p.later);
       cause = record { later = omega (arith, inv.3, ap g.Si.Sink.faults p.sink); failed = tt };

@@ -1,4 +1,4 @@
-use Rattle.std.proofs.Common.{◌+◌, ◌-◌, ◌^◌, ◌≤◌, [], length}
+use Rattle.std.proofs.Common.{◌≡◌, ◌+◌, ◌-◌, ◌^◌, ◌≤◌, [], length}
 use Rattle.kv_serve.specs.Run.{Streams, AnswersAll}
 use Rattle.kv_serve.proofs.runs.answer_all.Given as goal
 
@@ -14,8 +14,8 @@ invariant-loop-worker g l =
     AnswersAll streams g.W.Worker.steps l.initial.worker l.worker l.initial.session l.session []
     × (g.W.Worker.room l.initial.worker + length l.session.waiting ≤ g.W.Worker.room l.worker +
     l.session.taken)
-    × (g.So.Source.faults l.initial.session.source ≤ g.So.Source.faults l.session.source)
-    × (g.Si.Sink.faults l.initial.session.sink ≤ g.Si.Sink.faults l.session.sink)
+    × (g.So.Source.faults l.session.source ≡ g.So.Source.faults l.initial.session.source)
+    × (g.Si.Sink.faults l.session.sink ≡ g.Si.Sink.faults l.initial.session.sink)
 
 abbrev pub decreases-loop-worker : goal.decreases-loop-worker
 decreases-loop-worker g l = (2 ^ 40 + length l.session.waiting) - l.session.taken

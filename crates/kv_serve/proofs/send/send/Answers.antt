@@ -1,4 +1,4 @@
-use Rattle.std.proofs.Common.{arith, length, drop, ◌-◌}
+use Rattle.std.proofs.Common.{arith, length, drop, ◌-◌, ◌∙◌}
 use Rattle.std.proofs.lemmas.List.{length-take, length-drop}
 use Rattle.kv_serve.proofs.SessionLemmas.{Takes-more}
 use Rattle.kv_serve.proofs.send.send.Goals as goal
@@ -14,5 +14,5 @@ loop-sent-preserved g c =
         length-drop sent bytes,
       ),
       Takes-more _ _ _ _ _ _ c.loop-sent.invariant.1 c.in-Ok.ensures.bytes,
-      omega (arith, c.loop-sent.invariant.2, c.in-Ok.ensures.cause.later),
+      c.in-Ok.ensures.counted ∙ c.loop-sent.invariant.2,
     )

@@ -11,7 +11,7 @@ returns-in-Ok g c before folder n taken risen =
         rw c.new_store.ensures.disk (c.in-Ok.ensures.head t),
       );
       durable = rw c.new_store.ensures.disk c.in-Ok.ensures.durable;
-    }) (rw c.new_store.ensures.disk c.make_store.ensures.later) risen
+    }) (rw c.new_store.ensures.disk c.in-Ok.ensures.counted) risen
 
 pub returns-in-Err : goal.returns-in-Err
 returns-in-Err g c before folder n taken risen =
@@ -28,7 +28,8 @@ returns-in-Err g c before folder n taken risen =
           λ t. (back t).disks,
           opens_fail g.S.Pages.Disk _ _ c.in-Err.fault
               (λ t e. c.in-Err.ensures.not_a_store t (ap Err e)) (λ t e. c.in-Err.ensures.kept t
-              (ap Err e)) (λ e. c.in-Err.ensures.disk_fault (ap Err e)),
+              (ap Err e)) (λ e. c.in-Err.ensures.disk_fault (ap Err e))
+              c.make_store.ensures.spared (λ e. c.in-Err.ensures.untouched (ap Err e)),
         ),
       );
       report = λ t. (back t).report;

@@ -1,12 +1,12 @@
 -- The disk came back where the site refused the session; else the session is served over it.
-use Rattle.std.proofs.Common.{IsTrue, ap, Err}
+use Rattle.std.proofs.Common.{IsTrue, ap, Err, sym, ◌∙◌, arith}
 use Rattle.kv_serve.proofs.ServeLemmas.{refuses_session, rose_wider}
 use Rattle.kv_serve.proofs.serve_disk.serve_store.Goals as goal
 
 pub returns-in-Ok : goal.returns-in-Ok
 returns-in-Ok g c before folder n taken disk_taken opens faults risen =
     c.serve_session.ensures before (g.S.Site.holds c.args.site.now) folder n taken disk_taken
-    (λ t. c.in-Ok.ensures.taken t) opens faults
+    (λ t. c.in-Ok.ensures.taken t) opens faults (risen ∙ sym c.in-Ok.ensures.counted)
 
 pub returns-in-Err : goal.returns-in-Err
 returns-in-Err g c before folder n taken disk_taken opens faults risen =
@@ -31,7 +31,8 @@ returns-in-Err g c before folder n taken disk_taken opens faults risen =
             taken c.args.store.disk (λ t. (back t).disks) opens
             (λ e. rose_wider n (g.S.Site.faults c.args.site.now)
             (g.S.Site.faults c.take_session.new.self) (g.S.Site.faults c.give_disk_back.new.site)
-            risen (c.in-Err.ensures.cause (ap Err e)) c.give_disk_back.ensures.later)
+            (omega (arith, risen)) (c.in-Err.ensures.cause (ap Err e)) c.give_disk_back.ensures.later)
+            (λ e. c.give_disk_back.ensures.still ∙ ((rw e at c.in-Err.ensures.counted) ∙ sym risen))
             c.refuse_session.ensures.cause,
       );
       report = λ t. (back t).report;

@@ -5,7 +5,7 @@ use Rattle.kv_serve.proofs.session.Session.fill.Goals as goal
 pub loop-ready-preserved : goal.loop-ready-preserved
 loop-ready-preserved g c = (
   Arrives-trans c.loop-ready.invariant.0 c.in-Ok.ensures.arrives,
-  omega (arith, c.loop-ready.invariant.1, c.in-Ok.ensures.cause.later),
+  c.in-Ok.ensures.counted ∙ c.loop-ready.invariant.1,
   c.in-Ok.ensures.sink ∙ c.loop-ready.invariant.2,
   StaysDecided-more c.loop-ready.invariant.3 c.in-None.ensures.ready,
 )

@@ -20,6 +20,7 @@ returns-in-Ok-clause-step g c =
     steps_read _ _ c.args.key.now c.in-Some.page c.read.new.buf _ good unclosed
     (sym c.in-Some.ensures) refl c.read.ensures.seen refl refl (λ t. c.in-Ok.ensures.content t)
     c.read.ensures.cause.later c.read.ensures.past.counted c.found.ensures.value
+    c.in-Ok.ensures.counted
     (stays_durable g.D.Disk _ _ (λ f p x left. (g.met.D.Disk.told c.args.self.now.disk _ f p x left).0)
     c.read.ensures.seen c.read.ensures.crash)
 
@@ -28,6 +29,6 @@ returns-in-Err-clause-step g c =
     let good : refusal_of (only_class 7) (Get c.args.key.now) ≡ None = search rules in
     let unclosed : c.args.self.now.closed ≡ false = search rules in
     steps_read_failed _ _ c.args.key.now good unclosed refl c.read.ensures.seen refl refl
-    c.in-Err.ensures.cause.failed c.read.ensures.past.counted
+    c.in-Err.ensures.cause.failed c.in-Err.ensures.counted c.read.ensures.past.counted
     (stays_durable g.D.Disk _ _ (λ f p x left. (g.met.D.Disk.told c.args.self.now.disk _ f p x left).0)
     c.read.ensures.seen c.read.ensures.crash)

@@ -49,6 +49,7 @@ returns-in-Ok-write_item-clause-step g c =
     (reads-item_bytes c.slots_read_again.ensures.items c.args.self.now.next c.args.key.now
     c.args.value.now (omega arith) is fits) c.write_item.ensures.cause.later
     c.in-Ok-write_item.ensures.calls c.in-Ok-write_item.ensures.durable
+    c.in-Ok-write_item.ensures.counted
 
 pub returns-in-Err-clause-step : goal.returns-in-Err-clause-step
 returns-in-Err-clause-step g c =
@@ -56,4 +57,4 @@ returns-in-Err-clause-step g c =
     search rules in
     let unclosed : c.args.self.now.closed ≡ false = search rules in
     steps_unsure _ _ c.args.key.now c.args.value.now good unclosed refl refl
-    c.in-Err.ensures.cause.failed
+    c.in-Err.ensures.cause.failed c.in-Err.ensures.failed c.in-Err.ensures.others c.in-Err.ensures.counted

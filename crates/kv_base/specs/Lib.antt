@@ -6,4 +6,5 @@ pub mod Limits
 pub mod Stream
 pub mod Memory
 pub mod Image
+pub mod Crash
 pub mod Adapters

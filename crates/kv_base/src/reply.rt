@@ -20,6 +20,16 @@ pub enum Reply {
         /// The stamp of the request.
         stamp: u64,
     },
+    /// The key had a value, and on disk it has none any more.
+    Removed {
+        /// The stamp of the request.
+        stamp: u64,
+    },
+    /// The key had no value that could be removed.
+    Absent {
+        /// The stamp of the request.
+        stamp: u64,
+    },
     /// The key has no byte or more than 255.
     BadKey,
     /// Key and value together are larger than the largest class.
@@ -40,6 +50,11 @@ pub enum Reply {
     },
     /// An earlier write or sync failed. The store answers nothing else until it is opened again.
     Closed,
+    /// No stamp is left for the request. Nothing changed.
+    StampsSpent {
+        /// The number that was drawn, at which the stamps of the requests would have begun.
+        number: u64,
+    },
     /// The bytes at the offset are no request, and nothing behind them was read.
     Malformed {
         /// How many bytes of the session stand before them.

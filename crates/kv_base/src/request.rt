@@ -16,4 +16,11 @@ pub enum Request {
         /// The key, 1 to 255 bytes, else the reply is `BadKey`.
         key: Bytes,
     },
+    /// Removes the value of the key.
+    Delete {
+        /// The key, 1 to 255 bytes, else the reply is `BadKey`.
+        key: Bytes,
+    },
+    /// Ends a group of requests, whose replies are then written. It has no reply of its own.
+    Flush,
 }

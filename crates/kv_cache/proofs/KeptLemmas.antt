@@ -6,8 +6,8 @@ use Rattle.std.proofs.Common.{arith}
 use Rattle.std.specs.Prelude.{is_some}
 use Rattle.std.proofs.lemmas.Bool.{and_parts, and_from, eqb-true, eq-eqb}
 use Rattle.kv_base.specs.Image.{Image, with_page}
-use Rattle.kv_disk.specs.Disk.{WrittenOrNot}
-use Rattle.kv_disk.proofs.ImageLemmas.{with_page-here, with_page-other}
+use Rattle.kv_base.specs.Crash.{WrittenOrNot}
+use Rattle.kv_base.proofs.ImageLemmas.{with_page-here, with_page-other}
 use Rattle.kv_cache.specs.Kept.{KeptPage, Kept, kept_page, is_at, content_of, without, to_front}
 use Rattle.kv_cache.specs.Kept.{renewed, with_new, with_pages, AreApart, AgreeWith, IsKept}
 

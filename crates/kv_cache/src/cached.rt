@@ -1,8 +1,8 @@
-ghost use Rattle.std.specs.Prelude.{◌≡◌, ℕ, ◌+◌, ◌-◌, ◌^◌, ◌≤◌, ◌<◌, List, [], None, Some, IsTrue};
+ghost use Rattle.std.specs.Prelude.{◌≡◌, ℕ, ◌-◌, ◌^◌, ◌≤◌, ◌<◌, List, [], None, Some, IsTrue};
 ghost use Rattle.std.specs.Prelude.{IfOk, IfErr, OnOk, OnErr};
 ghost use Rattle.kv_base.specs.Fault.{HasCause};
-ghost use Rattle.kv_base.specs.Image.{zero_page, with_page};
-ghost use Rattle.kv_disk.specs.Disk.{Only, NoMore, Same, Adds, WrittenOrNot, Advances};
+ghost use Rattle.kv_base.specs.Image.{zero_page};
+ghost use Rattle.kv_disk.specs.Steps.{Looks, WritesPage, Syncs, ReadsAtMost};
 ghost use Rattle.kv_cache.specs.Kept.{content_of, without, renewed};
 ghost use Rattle.kv_cache.specs.Cache.{IsCache, Hits, KeepsOrCounts};
 
@@ -71,9 +71,7 @@ impl<D: Disk> Cached<D> {
         requires file { file ≤ 13 }
         requires page { page < 2 ^ 32 - 1 }
         ensures content { IsTrue D.tells → OnOk result (out.new ≡ D.seen self.old.disk file page) }
-        ensures seen { IsTrue D.tells → D.seen self.new.disk ≡ D.seen self.old.disk }
-        ensures crash { Same (D.leaves self.old.disk (D.calls self.old.disk))
-            (D.leaves self.new.disk (D.calls self.new.disk)) }
+        ensures reads { ReadsAtMost ⟦<D as Disk>⟧ 1 self.old.disk self.new.disk }
         ensures cause { HasCause (D.faults self.old.disk) (D.faults self.new.disk) result }
 
         // a page that is kept
@@ -81,9 +79,8 @@ impl<D: Disk> Cached<D> {
             → Hits file page content out.new self.old self.new result }
 
         // any other
-        ensures past { content_of self.old.pages file page ≡ None
-            → Advances (D.calls self.old.disk) (D.calls self.new.disk) (D.leaves self.old.disk)
-            (D.leaves self.new.disk) }
+        ensures missed { content_of self.old.pages file page ≡ None
+            → Looks ⟦<D as Disk>⟧ self.old.disk self.new.disk result }
         ensures ok { content_of self.old.pages file page ≡ None
             → OnOk result (KeepsOrCounts file page out.new self.old self.new) }
         ensures err { OnErr result (self.new ≡ record self.old { disk = self.new.disk }) }
@@ -103,17 +100,8 @@ impl<D: Disk> Cached<D> {
     pub fn write(&mut self, file: u8, page: u32, content: &[u8; 4096]) -> Result<(), Failed>
         requires file { file ≤ 13 }
         requires page { page < 2 ^ 32 - 1 }
-        ensures written { IsTrue D.tells
-            → OnOk result (D.seen self.new.disk ≡ with_page (D.seen self.old.disk) file page
-            content.now) }
-        ensures seen { IsTrue D.tells → WrittenOrNot file page content.now (D.seen self.old.disk)
-            (D.seen self.new.disk) }
-        ensures crash { Adds file page content.now result
-            (D.leaves self.old.disk (D.calls self.old.disk))
-            (D.leaves self.new.disk (D.calls self.new.disk)) }
-        ensures past { Advances (D.calls self.old.disk) (D.calls self.new.disk)
-            (D.leaves self.old.disk) (D.leaves self.new.disk) }
-        ensures cause { HasCause (D.faults self.old.disk) (D.faults self.new.disk) result }
+        ensures disk { WritesPage ⟦<D as Disk>⟧ file page content.now self.old.disk self.new.disk
+            result }
 
         // the pages
         ensures ok { OnOk result (self.new ≡ record self.old {
@@ -140,16 +128,7 @@ impl<D: Disk> Cached<D> {
     /// Makes all writes so far durable. After `Failed`, which the disk's count of faults shows, all
     /// stands as before.
     pub fn sync(&mut self) -> Result<(), Failed>
-        ensures seen { IsTrue D.tells → D.seen self.new.disk ≡ D.seen self.old.disk }
-        ensures durable { OnOk result (Only (D.seen self.new.disk)
-            (D.leaves self.new.disk (D.calls self.new.disk))) }
-        ensures undone { OnErr result (Same (D.leaves self.old.disk (D.calls self.old.disk))
-            (D.leaves self.new.disk (D.calls self.new.disk))) }
-        ensures crash { NoMore (D.leaves self.old.disk (D.calls self.old.disk))
-            (D.leaves self.new.disk (D.calls self.new.disk)) }
-        ensures past { Advances (D.calls self.old.disk) (D.calls self.new.disk)
-            (D.leaves self.old.disk) (D.leaves self.new.disk) }
-        ensures cause { HasCause (D.faults self.old.disk) (D.faults self.new.disk) result }
+        ensures disk { Syncs ⟦<D as Disk>⟧ self.old.disk self.new.disk result }
         ensures kept { self.new ≡ record self.old { disk = self.new.disk } }
     {
         self.disk.sync()
@@ -161,12 +140,7 @@ impl<D: Disk> Cached<D> {
         requires { file ≤ 13 }
         ensures rest { IsTrue D.tells → IfOk result (λ pages. (p : ℕ) → pages ≤ p
             → D.seen self.old.disk file p ≡ zero_page) }
-        ensures seen { IsTrue D.tells → D.seen self.new.disk ≡ D.seen self.old.disk }
-        ensures crash { Same (D.leaves self.old.disk (D.calls self.old.disk))
-            (D.leaves self.new.disk (D.calls self.new.disk)) }
-        ensures past { Advances (D.calls self.old.disk) (D.calls self.new.disk)
-            (D.leaves self.old.disk) (D.leaves self.new.disk) }
-        ensures cause { HasCause (D.faults self.old.disk) (D.faults self.new.disk) result }
+        ensures disk { Looks ⟦<D as Disk>⟧ self.old.disk self.new.disk result }
         ensures kept { self.new ≡ record self.old { disk = self.new.disk } }
     {
         self.disk.length(file)

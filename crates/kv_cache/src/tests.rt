@@ -1,7 +1,7 @@
 ghost use Rattle.std.specs.Prelude.{◌≡◌, ◌⊎◌, ℕ, ◌-◌, ◌^◌, ◌≤◌, ◌<◌, IsTrue, IfOk, OnOk};
 ghost use Rattle.kv_base.specs.Fault.{HasCause};
 ghost use Rattle.kv_base.specs.Image.{with_page};
-ghost use Rattle.kv_disk.specs.Disk.{Only, LeavesOnly};
+ghost use Rattle.kv_base.specs.Crash.{Only, LeavesOnly};
 
 use crate::Cached;
 use kv_base::{Calls, Failed, NoMemory};

@@ -1,7 +1,6 @@
-pub mod CrashLemmas
-pub mod ImageLemmas
 mod MemoryLemmas
 mod PlainLemmas
 mod SettledLemmas
 mod SpotLemmas
+pub mod StepsLemmas
 mod TapeLemmas

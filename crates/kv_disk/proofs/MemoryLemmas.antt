@@ -19,8 +19,8 @@ use Rattle.kv_disk.specs.Replay.{put_at, held_with}
 use Rattle.kv_disk.specs.MemoryFields.{IsReplayed, Fits}
 use Rattle.kv_disk.specs.Memory.{Tape, spots_of, is_full}
 use Rattle.kv_disk.proofs.TapeLemmas.{is_full-true}
-use Rattle.kv_disk.proofs.ImageLemmas.{one_place, same_image, test-at, test-other, with_page-at}
-use Rattle.kv_disk.proofs.ImageLemmas.{with_page-other}
+use Rattle.kv_base.proofs.ImageLemmas.{one_place, same_image, test-at, test-other, with_page-at}
+use Rattle.kv_base.proofs.ImageLemmas.{with_page-other}
 use Rattle.kv_disk.proofs.PlainLemmas.{content-set}
 use Rattle.kv_disk.proofs.SpotLemmas.{place_in-range, place_in-apart, place_in-push, fits-log}
 use Rattle.kv_disk.proofs.SpotLemmas.{start_of-put, spots-put, start_of-place, spots-held_with}

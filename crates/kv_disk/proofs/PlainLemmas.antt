@@ -7,8 +7,8 @@ use Rattle.std.proofs.lemmas.List.{get_or_append_left, get_or_push}
 use Rattle.kv_base.specs.Image.{with_page, zero_page}
 use Rattle.kv_disk.specs.Plain.{content_at}
 use Rattle.kv_disk.specs.PlainFields.{Places}
-use Rattle.kv_disk.proofs.ImageLemmas.{one_place, same_image, test-at, test-other, with_page-at}
-use Rattle.kv_disk.proofs.ImageLemmas.{with_page-other}
+use Rattle.kv_base.proofs.ImageLemmas.{one_place, same_image, test-at, test-other, with_page-at}
+use Rattle.kv_base.proofs.ImageLemmas.{with_page-other}
 
 -- each place that a page has is among so many
 abbrev pub InRange : (ℕ → ℕ → Option ℕ) → ℕ → Type 0

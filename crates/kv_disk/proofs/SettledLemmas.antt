@@ -10,14 +10,14 @@ use Rattle.kv_disk.specs.declared.call.Held.{Held}
 use Rattle.kv_disk.specs.declared.call.Spot.{Spot}
 use Rattle.kv_disk.specs.declared.call.Call.{Call}
 use Rattle.kv_disk.specs.declared.call.Call.TheVariants.{Write, Sync, Idle}
-use Rattle.kv_disk.specs.Disk.{MayLeave}
+use Rattle.kv_base.specs.Crash.{MayLeave}
 use Rattle.kv_disk.specs.Plain.{content_at}
 use Rattle.kv_disk.specs.Replay.{place_in, spot, spot_of, start_of, spots_after, spots_in}
 use Rattle.kv_disk.specs.Replay.{waiting_in, comes_before, chosen_in, durable, Left, after_call}
 use Rattle.kv_disk.specs.Replay.{left_in}
 use Rattle.kv_disk.specs.Memory.{Tape, left_at, image_of, choices_of, crashed}
 use Rattle.kv_disk.specs.Told.{seen_is_left}
-use Rattle.kv_disk.proofs.ImageLemmas.{test-other}
+use Rattle.kv_base.proofs.ImageLemmas.{test-other}
 use Rattle.kv_disk.proofs.SpotLemmas.{place_in-push, start_of-place, start_of-held_with}
 
 -- a page that isn't among some isn't at its place either

@@ -19,7 +19,7 @@ use Rattle.kv_disk.specs.Plain.{content_at}
 use Rattle.kv_disk.specs.PlainFields.{Places}
 use Rattle.kv_disk.specs.Replay.{place_in, spot, spot_of, held_with, start_of, spots_after}
 use Rattle.kv_disk.specs.Replay.{length_in, SpotFits, CallFits, put_at}
-use Rattle.kv_disk.proofs.ImageLemmas.{one_place, same_image, test-at, test-other}
+use Rattle.kv_base.proofs.ImageLemmas.{one_place, same_image, test-at, test-other}
 use Rattle.kv_disk.proofs.PlainLemmas.{InRange, Apart, content_at-push_other, content-set}
 use Rattle.kv_disk.proofs.PlainLemmas.{content-push}
 

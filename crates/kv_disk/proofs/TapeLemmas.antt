@@ -13,14 +13,14 @@ use Rattle.kv_base.specs.Fault.{HasCause}
 use Rattle.kv_base.specs.Image.{with_page}
 use Rattle.kv_disk.specs.declared.call.Call.{Call}
 use Rattle.kv_disk.specs.declared.call.Call.TheVariants.{Write, Sync, Idle}
-use Rattle.kv_disk.specs.Disk.{Choices, Only, NoMore, Same, Adds, WrittenOrNot, Advances}
+use Rattle.kv_base.specs.Crash.{Choices, Only, NoMore, Same, Adds, WrittenOrNot, Advances}
 use Rattle.kv_disk.specs.Replay.{place_in, Left, after_call, durable, start_of, spot_of}
 use Rattle.kv_disk.specs.Replay.{spots_after}
 use Rattle.kv_disk.specs.Memory.{Tape, left_at, image_of, choices_of, spots_of, IsPast, IsFull}
 use Rattle.kv_disk.specs.Memory.{is_full, Keeps, Syncs, Writes, IsTape}
 use Rattle.kv_disk.specs.Told.{seen_is_left}
-use Rattle.kv_disk.proofs.ImageLemmas.{one_place, same_image, test-at, test-other, with_page-at}
-use Rattle.kv_disk.proofs.ImageLemmas.{with_page-other}
+use Rattle.kv_base.proofs.ImageLemmas.{one_place, same_image, test-at, test-other, with_page-at}
+use Rattle.kv_base.proofs.ImageLemmas.{with_page-other}
 
 -- past its room the list of calls stays
 log-past : {T E : Type 0} (call : Call) (old new : Tape) (result : Result T E)

@@ -4,7 +4,7 @@ use Rattle.std.specs.Prelude.{◌++◌, length, map, min, take, Result, IsErr, I
 use Rattle.std.specs.Prelude.{is_err, Contains, if◌then◌else◌}
 use Rattle.kv_base.specs.Calls.{next_count}
 use Rattle.kv_base.specs.Image.{Image}
-use Rattle.kv_disk.specs.Disk.{Choices}
+use Rattle.kv_base.specs.Crash.{Choices}
 use Rattle.kv_disk.specs.declared.call.Held.{Held}
 use Rattle.kv_disk.specs.declared.call.Spot.{Spot}
 use Rattle.kv_disk.specs.declared.call.Call.{Call}

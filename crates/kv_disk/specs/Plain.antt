@@ -5,7 +5,7 @@ use Rattle.std.specs.Prelude.{if◌then◌else◌}
 use Rattle.std.specs.Map.{lookup}
 use Rattle.kv_base.specs.Calls.{next_count}
 use Rattle.kv_base.specs.Image.{Image, zero_page}
-use Rattle.kv_disk.specs.Disk.{Choices}
+use Rattle.kv_base.specs.Crash.{Choices}
 
 -- contents that were written, the place among them of each page by file and page, the room for
 -- pages, and the counts of calls and faults

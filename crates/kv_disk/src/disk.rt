@@ -2,8 +2,8 @@ ghost use Rattle.std.specs.Prelude.{◌≡◌, ℕ, ◌-◌, ◌^◌, ◌≤◌,
 ghost use Rattle.std.specs.Prelude.{OnErr};
 ghost use Rattle.kv_base.specs.Fault.{HasCause, Counted};
 ghost use Rattle.kv_base.specs.Image.{Image, zero_page, with_page};
-ghost use Rattle.kv_disk.specs.Disk.{Choices, MayLeave, Only, NoMore, Same, Adds, WrittenOrNot};
-ghost use Rattle.kv_disk.specs.Disk.{Advances};
+ghost use Rattle.kv_base.specs.Crash.{Choices, MayLeave, Only, NoMore, Same, Adds, WrittenOrNot};
+ghost use Rattle.kv_base.specs.Crash.{Advances};
 
 use kv_base::Failed;
 

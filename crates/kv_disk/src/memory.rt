@@ -4,7 +4,7 @@ ghost use Rattle.std.specs.Prelude.{length, vec_len, vec_capacity, Option, IsTru
 ghost use Rattle.std.specs.Prelude.{IfOk, IfSome, IfNone, OnOk, OnErr, if◌then◌else◌};
 ghost use Rattle.kv_base.specs.Fault.{HasCause, Counted};
 ghost use Rattle.kv_base.specs.Image.{zero_page, with_page};
-ghost use Rattle.kv_disk.specs.Disk.{MayLeave, Only, NoMore, Same, Adds, WrittenOrNot, Advances};
+ghost use Rattle.kv_base.specs.Crash.{MayLeave, Only, NoMore, Same, Adds, WrittenOrNot, Advances};
 ghost use Rattle.kv_disk.specs.Plain.{content_at};
 ghost use Rattle.kv_disk.specs.Replay.{place_in, spot, length_in, IsNoWrite};
 ghost use Rattle.kv_disk.specs.Memory.{image_of, choices_of, spots_of, is_full, with_held, crashed};

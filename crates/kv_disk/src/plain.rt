@@ -2,7 +2,7 @@ ghost use Rattle.std.specs.Prelude.{◌≡◌, ℕ, ◌+◌, ◌-◌, ◌^◌, �
 ghost use Rattle.std.specs.Prelude.{vec_len, vec_capacity, IsTrue, IsOk, IfOk, OnOk, OnErr};
 ghost use Rattle.kv_base.specs.Fault.{HasCause, Counted};
 ghost use Rattle.kv_base.specs.Image.{zero_page, with_page};
-ghost use Rattle.kv_disk.specs.Disk.{Only, NoMore, Same, Adds, WrittenOrNot, Advances};
+ghost use Rattle.kv_base.specs.Crash.{Only, NoMore, Same, Adds, WrittenOrNot, Advances};
 ghost use Rattle.std.specs.HashMap.{hash_map_len, spare};
 ghost use Rattle.kv_disk.specs.PlainFields.{Places};
 ghost use Rattle.kv_disk.specs.Plain.{place_of, image_of, no_choices, Counts, PlainWrites};

@@ -1,5 +1,5 @@
 ghost use Rattle.std.specs.Prelude.{ℕ, ◌-◌, ◌^◌, ◌≤◌, ◌<◌};
-ghost use Rattle.kv_disk.specs.Disk.{Only};
+ghost use Rattle.kv_base.specs.Crash.{Only};
 
 use crate::{Disk, MemDisk, PlainDisk, write_in_order};
 use kv_base::{Calls, Failed, NoMemory};

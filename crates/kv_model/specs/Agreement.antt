@@ -1,13 +1,14 @@
 -- Replies that are those of one plain map, whose history is read at each reply's stamp.
-use Rattle.std.specs.Prelude.{◌≡◌, ◌≢◌, ℕ, ◌^◌, ◌<◌, List, ◌++◌, length, Option, None, Some, Bool}
-use Rattle.std.specs.Prelude.{IsTrue, MatchOption, is_some, if◌then◌else◌, ⊤}
+use Rattle.std.specs.Prelude.{◌≡◌, ◌≢◌, ℕ, ◌-◌, ◌^◌, ◌<◌, List, ◌++◌, length, Option, None, Some}
+use Rattle.std.specs.Prelude.{Bool, IsTrue, MatchOption, is_some, if◌then◌else◌, ⊤}
 use Rattle.std.specs.List.{AllByRecursion}
 use Rattle.kv_base.specs.declared.request.Request.{Request}
-use Rattle.kv_base.specs.declared.request.Request.TheVariants.{Put, Get}
+use Rattle.kv_base.specs.declared.request.Request.TheVariants.{Put, Get, Delete, Flush}
 use Rattle.kv_base.specs.declared.reply.Reply.{Reply}
-use Rattle.kv_base.specs.declared.reply.Reply.TheVariants.{Stored, Found, Missing, BadKey, TooLarge}
-use Rattle.kv_base.specs.declared.reply.Reply.TheVariants.{Full, NoMemory, DiskFault, Unsure}
-use Rattle.kv_base.specs.declared.reply.Reply.TheVariants.{Closed, Malformed}
+use Rattle.kv_base.specs.declared.reply.Reply.TheVariants.{Stored, Found, Missing, Removed, Absent}
+use Rattle.kv_base.specs.declared.reply.Reply.TheVariants.{BadKey, TooLarge, Full, NoMemory}
+use Rattle.kv_base.specs.declared.reply.Reply.TheVariants.{DiskFault, Unsure, Closed, StampsSpent}
+use Rattle.kv_base.specs.declared.reply.Reply.TheVariants.{Malformed}
 use Rattle.kv_model.specs.Pairwise.{Pairwise}
 use Rattle.kv_model.specs.History.{Write, value_at}
 use Rattle.kv_model.specs.Layout.{Layout, is_key_length, class_of}
@@ -19,6 +20,8 @@ refusal_of layout (Put key value) = if is_key_length layout (length key)
     then (if is_some (class_of layout (length key) (length value)) then None else Some TooLarge)
     else Some BadKey
 refusal_of layout (Get key) = if is_key_length layout (length key) then None else Some BadKey
+refusal_of layout (Delete key) = if is_key_length layout (length key) then None else Some BadKey
+refusal_of layout Flush = None
 
 -- the value that was read is the one kept; where the disk doesn't tell its content, nothing is said
 -- of its bytes
@@ -31,19 +34,24 @@ abbrev pub IsMapAnswer : Bool → Layout → List Write → Request → Reply �
 IsMapAnswer told layout history (Put key value) (Stored stamp) = ⊤
 IsMapAnswer told layout history (Put key value) (Found stamp found) = ⊥
 IsMapAnswer told layout history (Put key value) (Missing stamp) = ⊥
+IsMapAnswer told layout history (Put key value) (Removed stamp) = ⊥
+IsMapAnswer told layout history (Put key value) (Absent stamp) = ⊥
 IsMapAnswer told layout history (Put key value) BadKey = ⊥
 IsMapAnswer told layout history (Put key value) TooLarge = ⊥
 IsMapAnswer told layout history (Put key value) (Full class) =
     class_of layout (length key) (length value) ≡ Some class
 IsMapAnswer told layout history (Put key value) NoMemory = ⊤
-IsMapAnswer told layout history (Put key value) DiskFault = ⊥
+IsMapAnswer told layout history (Put key value) DiskFault = ⊤
 IsMapAnswer told layout history (Put key value) (Unsure stamp) = ⊤
 IsMapAnswer told layout history (Put key value) Closed = ⊤
+IsMapAnswer told layout history (Put key value) (StampsSpent number) = ⊤
 IsMapAnswer told layout history (Put key value) (Malformed offset) = ⊥
 IsMapAnswer told layout history (Get key) (Stored stamp) = ⊥
 IsMapAnswer told layout history (Get key) (Found stamp found) =
     IsRead told (value_at history stamp key) found
 IsMapAnswer told layout history (Get key) (Missing stamp) = value_at history stamp key ≡ None
+IsMapAnswer told layout history (Get key) (Removed stamp) = ⊥
+IsMapAnswer told layout history (Get key) (Absent stamp) = ⊥
 IsMapAnswer told layout history (Get key) BadKey = ⊥
 IsMapAnswer told layout history (Get key) TooLarge = ⊥
 IsMapAnswer told layout history (Get key) (Full class) = ⊥
@@ -51,7 +59,24 @@ IsMapAnswer told layout history (Get key) NoMemory = ⊤
 IsMapAnswer told layout history (Get key) DiskFault = ⊤
 IsMapAnswer told layout history (Get key) (Unsure stamp) = ⊥
 IsMapAnswer told layout history (Get key) Closed = ⊤
+IsMapAnswer told layout history (Get key) (StampsSpent number) = ⊤
 IsMapAnswer told layout history (Get key) (Malformed offset) = ⊥
+IsMapAnswer told layout history (Delete key) (Stored stamp) = ⊥
+IsMapAnswer told layout history (Delete key) (Found stamp found) = ⊥
+IsMapAnswer told layout history (Delete key) (Missing stamp) = ⊥
+IsMapAnswer told layout history (Delete key) (Removed stamp) =
+    IsTrue (is_some (value_at history (stamp - 1) key))
+IsMapAnswer told layout history (Delete key) (Absent stamp) = value_at history stamp key ≡ None
+IsMapAnswer told layout history (Delete key) BadKey = ⊥
+IsMapAnswer told layout history (Delete key) TooLarge = ⊥
+IsMapAnswer told layout history (Delete key) (Full class) = ⊥
+IsMapAnswer told layout history (Delete key) NoMemory = ⊤
+IsMapAnswer told layout history (Delete key) DiskFault = ⊤
+IsMapAnswer told layout history (Delete key) (Unsure stamp) = ⊤
+IsMapAnswer told layout history (Delete key) Closed = ⊤
+IsMapAnswer told layout history (Delete key) (StampsSpent number) = ⊤
+IsMapAnswer told layout history (Delete key) (Malformed offset) = ⊥
+IsMapAnswer told layout history Flush reply = ⊥
 
 -- the reply is the refusal that the sizes demand, or the map's answer where they demand none
 abbrev pub IsAnswer : Bool → Layout → List Write → Request → Reply → Type 0

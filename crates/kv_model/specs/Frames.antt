@@ -4,11 +4,12 @@ use Rattle.std.specs.Prelude.{true, false, ⊤}
 use Rattle.std.specs.List.{AllByRecursion, flat_map}
 use Rattle.std.specs.Int.{w32, w64, to_le_bytes, from_le_bytes}
 use Rattle.kv_base.specs.declared.request.Request.{Request}
-use Rattle.kv_base.specs.declared.request.Request.TheVariants.{Put, Get}
+use Rattle.kv_base.specs.declared.request.Request.TheVariants.{Put, Get, Delete, Flush}
 use Rattle.kv_base.specs.declared.reply.Reply.{Reply}
-use Rattle.kv_base.specs.declared.reply.Reply.TheVariants.{Stored, Found, Missing, BadKey, TooLarge}
-use Rattle.kv_base.specs.declared.reply.Reply.TheVariants.{Full, NoMemory, DiskFault, Unsure}
-use Rattle.kv_base.specs.declared.reply.Reply.TheVariants.{Closed, Malformed}
+use Rattle.kv_base.specs.declared.reply.Reply.TheVariants.{Stored, Found, Missing, Removed, Absent}
+use Rattle.kv_base.specs.declared.reply.Reply.TheVariants.{BadKey, TooLarge, Full, NoMemory}
+use Rattle.kv_base.specs.declared.reply.Reply.TheVariants.{DiskFault, Unsure, Closed, StampsSpent}
+use Rattle.kv_base.specs.declared.reply.Reply.TheVariants.{Malformed}
 
 -- the content behind its length
 abbrev pub framed : List ℕ → List ℕ
@@ -22,11 +23,15 @@ longest_content = 66000
 abbrev pub request_content : Request → List ℕ
 request_content (Put key value) = 0x01 ∷ length key ∷ key ++ value
 request_content (Get key) = 0x02 ∷ key
+request_content (Delete key) = 0x03 ∷ key
+request_content Flush = 0x05 ∷ []
 
 -- the request's fields can be written in its body
 abbrev pub HasRequestBody : Request → Type 0
 HasRequestBody (Put key value) = length key < 256
 HasRequestBody (Get key) = ⊤
+HasRequestBody (Delete key) = ⊤
+HasRequestBody Flush = ⊤
 
 -- the request has a frame
 pub record HasRequestFrame (request : Request) : Type 0 where
@@ -42,6 +47,8 @@ abbrev pub reply_content : Reply → List ℕ
 reply_content (Stored stamp) = 0x81 ∷ to_le_bytes w64 stamp
 reply_content (Found stamp value) = 0x82 ∷ to_le_bytes w64 stamp ++ value
 reply_content (Missing stamp) = 0x83 ∷ to_le_bytes w64 stamp
+reply_content (Removed stamp) = 0x84 ∷ to_le_bytes w64 stamp
+reply_content (Absent stamp) = 0x85 ∷ to_le_bytes w64 stamp
 reply_content BadKey = 0xE1 ∷ []
 reply_content TooLarge = 0xE2 ∷ []
 reply_content (Full class) = 0xE3 ∷ class ∷ []
@@ -49,6 +56,7 @@ reply_content NoMemory = 0xE4 ∷ []
 reply_content DiskFault = 0xE5 ∷ []
 reply_content (Unsure stamp) = 0xE6 ∷ to_le_bytes w64 stamp
 reply_content Closed = 0xE7 ∷ []
+reply_content (StampsSpent number) = 0xE8 ∷ to_le_bytes w64 number
 reply_content (Malformed offset) = 0xE9 ∷ to_le_bytes w64 offset
 
 -- the reply's fields can be written in its body
@@ -56,6 +64,8 @@ abbrev pub HasReplyBody : Reply → Type 0
 HasReplyBody (Stored stamp) = stamp < 2 ^ 64
 HasReplyBody (Found stamp value) = stamp < 2 ^ 64
 HasReplyBody (Missing stamp) = stamp < 2 ^ 64
+HasReplyBody (Removed stamp) = stamp < 2 ^ 64
+HasReplyBody (Absent stamp) = stamp < 2 ^ 64
 HasReplyBody BadKey = ⊤
 HasReplyBody TooLarge = ⊤
 HasReplyBody (Full class) = class < 256
@@ -63,6 +73,7 @@ HasReplyBody NoMemory = ⊤
 HasReplyBody DiskFault = ⊤
 HasReplyBody (Unsure stamp) = stamp < 2 ^ 64
 HasReplyBody Closed = ⊤
+HasReplyBody (StampsSpent number) = number < 2 ^ 64
 HasReplyBody (Malformed offset) = offset < 2 ^ 64
 
 -- the reply has a frame

@@ -2,11 +2,12 @@
 use Rattle.std.specs.Prelude.{ℕ, List, Option, None, Some}
 use Rattle.std.specs.List.{filter_map}
 use Rattle.kv_base.specs.declared.request.Request.{Request}
-use Rattle.kv_base.specs.declared.request.Request.TheVariants.{Put, Get}
+use Rattle.kv_base.specs.declared.request.Request.TheVariants.{Put, Get, Delete, Flush}
 use Rattle.kv_base.specs.declared.reply.Reply.{Reply}
-use Rattle.kv_base.specs.declared.reply.Reply.TheVariants.{Stored, Found, Missing, BadKey, TooLarge}
-use Rattle.kv_base.specs.declared.reply.Reply.TheVariants.{Full, NoMemory, DiskFault, Unsure}
-use Rattle.kv_base.specs.declared.reply.Reply.TheVariants.{Closed, Malformed}
+use Rattle.kv_base.specs.declared.reply.Reply.TheVariants.{Stored, Found, Missing, Removed, Absent}
+use Rattle.kv_base.specs.declared.reply.Reply.TheVariants.{BadKey, TooLarge, Full, NoMemory}
+use Rattle.kv_base.specs.declared.reply.Reply.TheVariants.{DiskFault, Unsure, Closed, StampsSpent}
+use Rattle.kv_base.specs.declared.reply.Reply.TheVariants.{Malformed}
 use Rattle.kv_model.specs.History.{Write}
 
 -- a request and its reply
@@ -18,17 +19,23 @@ pub record Pair : Type 0 where
 abbrev pub written : Request → ℕ → Option Write
 written (Put key value) stamp = Some (record { stamp = stamp; key = key; value = Some value })
 written (Get key) stamp = None
+written (Delete key) stamp = Some (record { stamp = stamp; key = key; value = None })
+written Flush stamp = None
 
--- the key that the request is about
-abbrev pub key_of : Request → List ℕ
-key_of (Put key value) = key
-key_of (Get key) = key
+-- the key that the request is about, where it is about one
+abbrev pub key_of : Request → Option (List ℕ)
+key_of (Put key value) = Some key
+key_of (Get key) = Some key
+key_of (Delete key) = Some key
+key_of Flush = None
 
 -- the write of the request that this reply acknowledges
 abbrev pub acknowledged_by : Request → Reply → Option Write
 acknowledged_by request (Stored stamp) = written request stamp
 acknowledged_by request (Found stamp value) = None
 acknowledged_by request (Missing stamp) = None
+acknowledged_by request (Removed stamp) = written request stamp
+acknowledged_by request (Absent stamp) = None
 acknowledged_by request BadKey = None
 acknowledged_by request TooLarge = None
 acknowledged_by request (Full class) = None
@@ -36,6 +43,7 @@ acknowledged_by request NoMemory = None
 acknowledged_by request DiskFault = None
 acknowledged_by request (Unsure stamp) = None
 acknowledged_by request Closed = None
+acknowledged_by request (StampsSpent number) = None
 acknowledged_by request (Malformed offset) = None
 
 -- the write that the pair acknowledges
@@ -47,6 +55,8 @@ abbrev pub unsure_by : Request → Reply → Option Write
 unsure_by request (Stored stamp) = None
 unsure_by request (Found stamp value) = None
 unsure_by request (Missing stamp) = None
+unsure_by request (Removed stamp) = None
+unsure_by request (Absent stamp) = None
 unsure_by request BadKey = None
 unsure_by request TooLarge = None
 unsure_by request (Full class) = None
@@ -54,6 +64,7 @@ unsure_by request NoMemory = None
 unsure_by request DiskFault = None
 unsure_by request (Unsure stamp) = written request stamp
 unsure_by request Closed = None
+unsure_by request (StampsSpent number) = None
 unsure_by request (Malformed offset) = None
 
 -- the stamp that the reply carries
@@ -61,6 +72,8 @@ abbrev pub stamp_of : Reply → Option ℕ
 stamp_of (Stored stamp) = Some stamp
 stamp_of (Found stamp value) = Some stamp
 stamp_of (Missing stamp) = Some stamp
+stamp_of (Removed stamp) = Some stamp
+stamp_of (Absent stamp) = Some stamp
 stamp_of BadKey = None
 stamp_of TooLarge = None
 stamp_of (Full class) = None
@@ -68,6 +81,7 @@ stamp_of NoMemory = None
 stamp_of DiskFault = None
 stamp_of (Unsure stamp) = Some stamp
 stamp_of Closed = None
+stamp_of (StampsSpent number) = None
 stamp_of (Malformed offset) = None
 
 -- the writes that were acknowledged

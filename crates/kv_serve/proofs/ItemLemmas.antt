@@ -12,8 +12,8 @@ use Rattle.kv_model.specs.Padding.{padded}
 use Rattle.kv_model.specs.SlotBytes.{item_bytes, item_header}
 use Rattle.kv_slot.specs.Overwrite.{overwritten}
 use Rattle.kv_base.specs.Image.{Image}
-use Rattle.kv_disk.specs.Disk.{WrittenOrNot}
-use Rattle.kv_disk.proofs.ImageLemmas.{with_page-other}
+use Rattle.kv_base.specs.Crash.{WrittenOrNot}
+use Rattle.kv_base.proofs.ImageLemmas.{with_page-other}
 use Rattle.kv_serve.specs.Store.{OthersStay}
 
 -- bytes that are filled up have the size

@@ -3,7 +3,7 @@ use Rattle.std.proofs.Common.{◌≡◌, ℕ, ◌≤◌, List, Option, Some, Boo
 use Rattle.std.proofs.Common.{◌∙◌, inr, arith, ⊎_elim}
 use Rattle.std.proofs.lemmas.Bool.{cases_eq}
 use Rattle.kv_disk.specs.declared.disk.Disk.{Ghosts}
-use Rattle.kv_disk.specs.Disk.{Same}
+use Rattle.kv_base.specs.Crash.{Same}
 use Rattle.kv_model.specs.Pairs.{Pair}
 use Rattle.kv_site.specs.Held.{Held}
 use Rattle.kv_serve.specs.declared.ending.Ending.{Ending}

@@ -28,9 +28,9 @@ use Rattle.kv_serve.specs.Content.{ReadsAs, ReadsItem, IsFoundIn}
 use Rattle.kv_serve.specs.Causes.{RoseBy, is_unsure, faults_told, IsFullAtLimit, drawn, faults_behind}
 use Rattle.kv_serve.specs.Causes.{slot_limit, last_value, HasNoSlot}
 use Rattle.kv_serve.specs.Store.{Keeps, Holds, Steps, TakesCalls, IsDurable, OthersStay, IsItemOf, HasItems}
-use Rattle.kv_disk.specs.Disk.{Same}
+use Rattle.kv_base.specs.Crash.{Same}
 use Rattle.kv_serve.specs.declared.store.Store.{Store}
-use Rattle.kv_disk.proofs.ImageLemmas.{with_page-here, with_page-other}
+use Rattle.kv_base.proofs.ImageLemmas.{with_page-here, with_page-other}
 use Rattle.kv_serve.proofs.HistoryLemmas.{value_at-last, value_at-other, latest-last}
 use Rattle.kv_serve.proofs.HistoryLemmas.{latest-other}
 use Rattle.kv_serve.proofs.PagesLemmas.{keys_fit}

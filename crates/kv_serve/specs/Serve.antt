@@ -10,7 +10,7 @@ use Rattle.kv_base.specs.Fault.{Rose}
 use Rattle.kv_base.specs.Image.{with_page}
 use Rattle.kv_base.specs.Stream.{Passes, IsSpent, Takes}
 use Rattle.kv_disk.specs.declared.disk.Disk.{Ghosts}
-use Rattle.kv_disk.specs.Disk.{Same}
+use Rattle.kv_base.specs.Crash.{Same}
 use Rattle.kv_model.specs.Head.{head_page}
 use Rattle.kv_model.specs.Transcript.{HasTranscript}
 use Rattle.kv_site.specs.Held.{Held}

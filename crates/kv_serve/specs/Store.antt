@@ -20,7 +20,7 @@ use Rattle.kv_serve.specs.Causes.{RoseBy, is_unsure, faults_told, IsFullAtLimit,
 use Rattle.kv_serve.specs.Causes.{last_value}
 use Rattle.std.specs.Prelude.{◌-◌, ◌^◌}
 use Rattle.kv_disk.specs.declared.disk.Disk.{Ghosts}
-use Rattle.kv_disk.specs.Disk.{Only}
+use Rattle.kv_base.specs.Crash.{Only}
 use Rattle.kv_serve.specs.declared.store.Store.{Store}
 
 -- the key's page has the value, where the disk tells; a key without a page has none

@@ -3,7 +3,7 @@ ghost use Rattle.std.specs.Prelude.{OnOk, OnErr, ◌⊎◌};
 ghost use Rattle.kv_base.specs.Calls.{next_count};
 ghost use Rattle.kv_base.specs.Fault.{HasCause, Counted};
 ghost use Rattle.kv_base.specs.Image.{with_page};
-ghost use Rattle.kv_disk.specs.Disk.{Only};
+ghost use Rattle.kv_base.specs.Crash.{Only};
 ghost use Rattle.kv_model.specs.Layout.{only_class};
 ghost use Rattle.kv_model.specs.Slots.{Item, read_small};
 ghost use Rattle.kv_model.specs.SlotBytes.{item_bytes};

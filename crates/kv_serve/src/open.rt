@@ -2,7 +2,7 @@ ghost use Rattle.std.specs.Prelude.{◌≡◌, ℕ, ◌-◌, ◌^◌, ◌≤◌,
 ghost use Rattle.kv_base.specs.Fault.{Rose, HasCause, Counted};
 ghost use Rattle.kv_base.specs.Image.{with_page, zero_page};
 ghost use Rattle.kv_model.specs.Head.{head_page};
-ghost use Rattle.kv_disk.specs.Disk.{WrittenOrNot, Same};
+ghost use Rattle.kv_base.specs.Crash.{WrittenOrNot, Same};
 ghost use Rattle.kv_serve.specs.Open.{IsBlank, IsUsed, IsSpared};
 ghost use Rattle.kv_serve.specs.Store.{IsDurable};
 

@@ -1,5 +1,5 @@
 ghost use Rattle.std.specs.Prelude.{◌≡◌, ℕ, ◌+◌, ◌^◌, ◌<◌, ◌≤◌};
-ghost use Rattle.kv_disk.specs.Disk.{Only};
+ghost use Rattle.kv_base.specs.Crash.{Only};
 ghost use Rattle.kv_base.specs.declared.request.Request.TheVariants.{Put};
 ghost use Rattle.kv_model.specs.Frames.{HasReplyFrame};
 

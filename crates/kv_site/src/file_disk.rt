@@ -2,7 +2,7 @@ ghost use Rattle.std.specs.Prelude.{◌≡◌, ◌≤◌, ◌<◌, ◌-◌, ◌*
 ghost use Rattle.std.specs.Prelude.{replicate, set, vec_len, IsTrue, IfOk, OnOk, OnErr};
 ghost use Rattle.kv_base.specs.Calls.{next_count};
 ghost use Rattle.kv_base.specs.Fault.{HasCause, Counted};
-ghost use Rattle.kv_disk.specs.Disk.{Advances};
+ghost use Rattle.kv_base.specs.Crash.{Advances};
 ghost use Rattle.kv_disk.specs.Plain.{no_choices};
 ghost use Rattle.kv_site.specs.FileMarks.{SameMarks, IsSynced, HasUnsynced, untold};
 

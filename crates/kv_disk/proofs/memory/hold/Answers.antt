@@ -3,7 +3,7 @@ use Rattle.std.proofs.Common.{◌≡◌, Some, None, length, refl, sym, ◌∙�
 use Rattle.std.proofs.lemmas.Bool.{cond-true}
 use Rattle.kv_base.specs.Image.{zero_page}
 use Rattle.kv_disk.specs.Replay.{place_in}
-use Rattle.kv_disk.proofs.ImageLemmas.{test-at}
+use Rattle.kv_base.proofs.ImageLemmas.{test-at}
 use Rattle.kv_disk.proofs.SpotLemmas.{place_in-push, content-new}
 use Rattle.kv_disk.proofs.memory.hold.Goals as goal
 

@@ -1,10 +1,10 @@
 -- Each call goes on from the images that a crash could leave before it.
 use Rattle.std.proofs.Common.{◌≡◌, ℕ, List, Result, inl, inr, ◌∙◌, ap}
 use Rattle.kv_base.specs.Image.{Image, with_page}
-use Rattle.kv_disk.specs.Disk.{Choices, MayLeave, Only, Adds, Advances, LeavesOnly}
+use Rattle.kv_base.specs.Crash.{Choices, MayLeave, Only, Adds, Advances, LeavesOnly}
 use Rattle.kv_disk.specs.Order.{IsInOrder}
-use Rattle.kv_disk.proofs.CrashLemmas.{started, stays, writes}
-use Rattle.kv_disk.proofs.ImageLemmas.{only_image}
+use Rattle.kv_base.proofs.CrashLemmas.{started, stays, writes}
+use Rattle.kv_base.proofs.ImageLemmas.{only_image}
 use Rattle.kv_disk.proofs.order.write_in_order.Goals as goal
 
 -- after the first write, of a disk that could leave the base alone

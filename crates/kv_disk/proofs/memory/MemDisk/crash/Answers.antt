@@ -1,6 +1,6 @@
 -- What is left is one of the images that may be left.
 use Rattle.std.proofs.Common.{◌≡◌, ℕ, List, Result, Ok, Err, IfOk, sym, subst}
-use Rattle.kv_disk.specs.Disk.{MayLeave}
+use Rattle.kv_base.specs.Crash.{MayLeave}
 use Rattle.kv_disk.specs.Memory.{Tape, image_of, choices_of, crashed}
 use Rattle.kv_disk.proofs.SettledLemmas.{crash_may_leave}
 use Rattle.kv_disk.proofs.memory.MemDisk.crash.Goals as goal

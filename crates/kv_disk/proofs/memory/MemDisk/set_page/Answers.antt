@@ -5,7 +5,7 @@ use Rattle.std.proofs.lemmas.List.{length-map}
 use Rattle.std.proofs.lemmas.List.Elements.{All-set, All-push}
 use Rattle.kv_disk.specs.declared.call.Held.{Held}
 use Rattle.kv_disk.specs.Replay.{place_in, spot, spot_of, held_with, put_at, spots_in, SpotFits}
-use Rattle.kv_disk.proofs.ImageLemmas.{same_image}
+use Rattle.kv_base.proofs.ImageLemmas.{same_image}
 use Rattle.kv_disk.proofs.MemoryLemmas.{put-replayed, put-image, put_cases, no_calls}
 use Rattle.kv_disk.proofs.memory.MemDisk.set_page.Goals as goal
 

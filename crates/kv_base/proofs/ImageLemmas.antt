@@ -4,7 +4,7 @@ use Rattle.std.specs.Prelude.{◌&&◌}
 use Rattle.std.proofs.lemmas.Bool.{cases_eq, eq-eqb, ne_eqb, and_from, and_left, and_right}
 use Rattle.std.proofs.lemmas.Bool.{cond-true, cond-false}
 use Rattle.kv_base.specs.Image.{Image, with_page}
-use Rattle.kv_disk.specs.Disk.{Choices, MayLeave, Only}
+use Rattle.kv_base.specs.Crash.{Choices, MayLeave, Only}
 
 -- images that agree at each page are the same
 pub same_image : (a b : Image) → ((f p : ℕ) → a f p ≡ b f p) → a ≡ b

@@ -3,9 +3,9 @@ use Rattle.std.proofs.Common.{◌≡◌, ℕ, ◌+◌, List, Result, ◌⊎◌, 
 use Rattle.std.proofs.Common.{arith}
 use Rattle.std.proofs.lemmas.Bool.{cases_lt}
 use Rattle.kv_base.specs.Image.{Image, with_page}
-use Rattle.kv_disk.specs.Disk.{Choices, MayLeave, NoMore, Same, Adds, Advances, LeavesOnly}
-use Rattle.kv_disk.proofs.ImageLemmas.{one_place, same_image, with_page-at, with_page-here}
-use Rattle.kv_disk.proofs.ImageLemmas.{with_page-other}
+use Rattle.kv_base.specs.Crash.{Choices, MayLeave, NoMore, Same, Adds, Advances, LeavesOnly}
+use Rattle.kv_base.proofs.ImageLemmas.{one_place, same_image, with_page-at, with_page-here}
+use Rattle.kv_base.proofs.ImageLemmas.{with_page-other}
 
 -- the same contents may be left as before, twice over
 pub same-trans : (a b c : Choices) → Same a b → Same b c → Same a c

@@ -2,6 +2,7 @@ pub mod Pairwise
 pub mod History
 pub mod Layout
 pub mod Pairs
+pub mod Groups
 pub mod Agreement
 pub mod Order
 pub mod Frames

@@ -8,5 +8,5 @@ mod oracle;
 mod tests;
 mod write;
 
-pub use laws::stamps_rise;
+pub use laws::{classes_are_least, groups_hold_requests, layouts_rise, stamps_rise};
 pub use oracle::Oracle;

@@ -4,3 +4,9 @@ pub mod PairwiseLemmas
 pub mod OrderLemmas
 pub mod GroupLemmas
 pub mod LayoutLemmas
+pub mod ReadingLemmas
+pub mod NetLemmas
+pub mod AnswersLemmas
+pub mod AgreementLemmas
+pub mod WholeLemmas
+pub mod ToldLemmas

@@ -11,7 +11,12 @@ pub mod Padding
 pub mod Slots
 pub mod SlotBytes
 pub mod Head
+pub mod Batch
+pub mod Items
+pub mod BatchLaws
+pub mod FreeSlots
 pub mod Reading
 pub mod Recovery
 pub mod Oracle
 pub mod Examples
+pub mod BatchExamples

@@ -10,6 +10,8 @@ ghost use Rattle.kv_model.specs.Examples.{PutAndGet, GetOfNothing, RefusedThenPu
 ghost use Rattle.kv_model.specs.Examples.{SinkFails, SinkFailsBeforeTheEnd, GoesOn, GroupsEnd};
 ghost use Rattle.kv_model.specs.Examples.{put_and_get, slot_a, tombstone_4, head_2_of_3};
 ghost use Rattle.kv_model.specs.Examples.{key_a, value_1};
+ghost use Rattle.kv_model.specs.BatchExamples.{NoNetChange, LastPut, ThirdIsFull, UpdatesWhereFull};
+ghost use Rattle.kv_model.specs.BatchExamples.{NoRoomYet, RoomThen, DeletedTwice, LastIsTakenFirst};
 
 use super::*;
 use std::test::Fail;
@@ -31,6 +33,17 @@ fn groups_end_at_64_requests_or_a_flush()
 fn a_put_and_a_get_agree_with_the_map()
     ensures agrees { AgreesWithMap true (only_class 7) [] 0 put_and_get }
     ensures ordered { RespectsOrder (put_and_get ∷ []) }
+{}
+
+fn batches_have_their_answers()
+    ensures none { NoNetChange }
+    ensures last { LastPut }
+    ensures full { ThirdIsFull }
+    ensures update { UpdatesWhereFull }
+    ensures no_room { NoRoomYet }
+    ensures room { RoomThen }
+    ensures twice { DeletedTwice }
+    ensures free { LastIsTakenFirst }
 {}
 
 fn items_have_their_classes()
@@ -68,6 +81,7 @@ fn the_definitions_hold_of_the_worked_examples() {
     sessions_have_their_transcripts();
     groups_end_at_64_requests_or_a_flush();
     a_put_and_a_get_agree_with_the_map();
+    batches_have_their_answers();
     items_have_their_classes();
     slots_have_their_places();
     slots_read_as_they_are_written();

@@ -1,9 +1,10 @@
 -- The groups that a session's requests make: each has 64 requests at most, and a Flush ends one.
 use Rattle.std.specs.Prelude.{◌≡◌, ℕ, ◌-◌, ◌==◌, ◌≤◌, List, [], ◌∷◌, ◌++◌, length, filter, fold, Bool}
-use Rattle.std.specs.Prelude.{true, false, if◌then◌else◌}
+use Rattle.std.specs.Prelude.{true, false, map, if◌then◌else◌}
 use Rattle.std.specs.List.{AllByRecursion, flat_map}
 use Rattle.kv_base.specs.declared.request.Request.{Request}
 use Rattle.kv_base.specs.declared.request.Request.TheVariants.{Put, Get, Delete, Flush}
+use Rattle.kv_model.specs.Pairs.{Pair, requests_of, replies_in}
 
 -- the most requests of a group
 abbrev pub most_requests : ℕ
@@ -75,3 +76,11 @@ pub record GroupsHoldRequests : Type 0 where
       → flat_map (λ group. group) (all_groups (groups_of requests)) ≡ filter has_reply requests
   pub room : (requests : List Request)
       → length (groups_of requests).current ≤ most_requests - 1
+
+-- requests without a reply change no group where reading ends, and groups of pairs are determined by
+-- their requests and the list of all replies
+pub record OneGrouping : Type 0 where
+  pub same : (requests more : List Request) → filter has_reply more ≡ []
+      → all_groups (groups_of (requests ++ more)) ≡ all_groups (groups_of requests)
+  pub pairs : (groups others : List (List Pair)) → map requests_of groups ≡ map requests_of others
+      → replies_in groups ≡ replies_in others → groups ≡ others

@@ -1,5 +1,5 @@
 ghost use Rattle.kv_model.specs.Layout.{LayoutsRise, ClassesAreLeast};
-ghost use Rattle.kv_model.specs.Groups.{GroupsHoldRequests};
+ghost use Rattle.kv_model.specs.Groups.{GroupsHoldRequests, OneGrouping};
 ghost use Rattle.kv_model.specs.Order.{StampsRise};
 ghost use Rattle.kv_model.specs.BatchLaws.{StampsFollowRequests, NetHasOneWritePerKey};
 ghost use Rattle.kv_model.specs.BatchLaws.{NetReadsAsAll, AcknowledgedReadAsAll, AnswersAgree};
@@ -18,6 +18,11 @@ pub fn classes_are_least()
 /// Groups have 1 to 64 requests, and hold each request that has a reply once, in order.
 pub fn groups_hold_requests()
     ensures { GroupsHoldRequests }
+{}
+
+/// Requests and replies determine the groups of pairs.
+pub fn one_grouping()
+    ensures { OneGrouping }
 {}
 
 /// Through all groups of a session the stamps of each key's requests rise.

@@ -50,7 +50,7 @@ AllFrom-weaken low high [] le all = tt
 AllFrom-weaken low high (write ∷ writes) le all =
     (omega (arith, all.0), AllFrom-weaken low high writes le all.1)
 
-SameValue-refl : (told : Bool) (value : Option (List ℕ)) → SameValue told value value
+pub SameValue-refl : (told : Bool) (value : Option (List ℕ)) → SameValue told value value
 SameValue-refl told None = tt
 SameValue-refl told (Some value) = λ _. refl
 

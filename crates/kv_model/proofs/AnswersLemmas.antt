@@ -163,6 +163,18 @@ last_write-append (write ∷ writes) others key =
     ∙ option_or-assoc (last_write others key) (last_write writes key)
     (cond (bytes_eq write.key key) (Some write) None)
 
+-- the last write of the key, with one more write behind
+pub last_write-push : (writes : List Write) (write : Write) (key : List ℕ)
+    → last_write (writes ++ write ∷ []) key
+    ≡ cond (bytes_eq write.key key) (Some write) (last_write writes key)
+last_write-push writes write key = last_write-append writes (write ∷ []) key
+    ∙ by (bytes_eq write.key key)
+  where
+    by : (same : Bool) → option_or (cond same (Some write) None) (last_write writes key)
+        ≡ cond same (Some write) (last_write writes key)
+    by true = refl
+    by false = refl
+
 value_or-or : (last other : Option Write) (before : Option (List ℕ)) → value_or (option_or last
     other) before ≡ value_or last (value_or other before)
 value_or-or None other before = refl

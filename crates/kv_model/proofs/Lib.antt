@@ -13,3 +13,4 @@ pub mod ToldLemmas
 pub mod ContainsLemmas
 pub mod KeyLemmas
 pub mod LookupLemmas
+pub mod OracleLemmas

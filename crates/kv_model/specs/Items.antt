@@ -1,14 +1,17 @@
 -- The items that a history has at a stamp, and what a batch finds there.
 use Rattle.std.specs.Prelude.{◌≡◌, ℕ, ◌-◌, ◌==◌, List, [], ◌∷◌, length, filter, count_by, Contains}
-use Rattle.std.specs.Prelude.{Option, None, Some, Bool, IsTrue, ◌↔◌, ◌&&◌, ◌||◌, ⊤, option_and_then}
+use Rattle.std.specs.Prelude.{Option, None, Some, Bool, true, IsTrue, ◌↔◌, ◌&&◌, ◌||◌, ◌++◌, ⊤, option_and_then}
 use Rattle.std.specs.Ordering.{nat_cmp, is_le, is_lt}
 use Rattle.std.specs.Cmp.Lexicographic.{slice_cmp}
+use Rattle.kv_base.specs.declared.request.Request.{Request}
+use Rattle.kv_base.specs.declared.reply.Reply.{Reply}
 use Rattle.kv_base.specs.Partition.{owner_of}
 use Rattle.kv_model.specs.Pairwise.{Pairwise}
 use Rattle.kv_model.specs.History.{Write, value_at}
-use Rattle.kv_model.specs.Layout.{Layout, class_of}
+use Rattle.kv_model.specs.Layout.{Layout, class_of, all_classes}
 use Rattle.kv_model.specs.Slots.{is_class}
-use Rattle.kv_model.specs.Batch.{Start, last_write, class_written, value_after}
+use Rattle.kv_model.specs.Batch.{Start, last_write, class_written, value_after, answers}
+use Rattle.kv_model.specs.Batch.{accepted_writes, net}
 
 -- a key and its value
 abbrev pub KeyValue : Type 0
@@ -80,3 +83,13 @@ pub record HasChanges (start after : Start) (changes : List Write) : Type 0 wher
   pub limit : after.limit ≡ start.limit
   pub value : (key : List ℕ) → after.value key ≡ value_after start changes key
   pub class : (key : List ℕ) → after.class key ≡ class_after start changes key
+
+-- a batch was answered from its first stamp on, and its net changes came behind the writes
+pub record AnswersBatch (before after : List Write) (base limit : ℕ) (requests : List Request)
+    (replies : List Reply) : Type 0 where
+  pub start : Start
+  pub begins : BeginsAt true before base start
+  pub layout : start.layout ≡ all_classes
+  pub limit_is : start.limit ≡ limit
+  pub replies_are : replies ≡ answers start [] base requests
+  pub taken : after ≡ before ++ net start (accepted_writes start [] base requests)

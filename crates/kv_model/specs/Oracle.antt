@@ -1,5 +1,6 @@
 -- The oracle as its callers see it: a history.
 use Rattle.std.specs.Prelude.{◌≡◌, ℕ, List, map, Option, None, Some}
+use Rattle.std.specs.Borrow.{Bor}
 use Rattle.kv_model.specs.declared.write.Recorded.{Recorded}
 use Rattle.kv_model.specs.declared.item.Item.{Item}
 use Rattle.kv_model.specs.declared.lookup.ItemSeen.{ItemSeen}
@@ -55,3 +56,7 @@ start_of found = record {
   class = λ key. class_with all_classes key (value_at (history_of found.writes.now) found.stamp key);
   items = λ class. count_of_class all_classes class (items_of found.items.now);
 }
+
+-- the writes that are seen, in that order
+abbrev pub seen_of : List (Bor Recorded) → List Write
+seen_of seen = map (λ recorded. write_of recorded.now) seen

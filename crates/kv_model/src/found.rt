@@ -39,7 +39,7 @@ pub fn last_write<'a>(written: &'a [Recorded], key: &[u8]) -> Option<&'a Recorde
 }
 
 /// What the key has before the batch.
-fn value_before<'a>(found: Found<'a>, key: &[u8]) -> Option<&'a [u8]>
+pub fn value_before<'a>(found: Found<'a>, key: &[u8]) -> Option<&'a [u8]>
     ensures { option_copied result ≡ (start_of found.entry).value key.now }
 {
     value_of(find_latest(found.writes, found.stamp, key))

@@ -1,9 +1,11 @@
 //! Definitions that the store is proved against, and the plain program that answers by them.
 #![tactic(auto)]
 
+mod batch;
 mod class;
 mod found;
 mod item;
+mod lasts;
 mod latest;
 mod laws;
 mod lookup;

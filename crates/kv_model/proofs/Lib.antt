@@ -1,2 +1,16 @@
 pub mod HistoryLemmas
 pub mod FrameLemmas
+pub mod PairwiseLemmas
+pub mod OrderLemmas
+pub mod GroupLemmas
+pub mod LayoutLemmas
+pub mod ReadingLemmas
+pub mod NetLemmas
+pub mod AnswersLemmas
+pub mod AgreementLemmas
+pub mod WholeLemmas
+pub mod ToldLemmas
+pub mod ContainsLemmas
+pub mod KeyLemmas
+pub mod LookupLemmas
+pub mod OracleLemmas

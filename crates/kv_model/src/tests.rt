@@ -7,8 +7,11 @@ ghost use Rattle.kv_model.specs.Reading.{page_of, offset_of};
 ghost use Rattle.kv_model.specs.Agreement.{AgreesWithMap};
 ghost use Rattle.kv_model.specs.Order.{RespectsOrder};
 ghost use Rattle.kv_model.specs.Examples.{PutAndGet, GetOfNothing, RefusedThenPut, CutInside};
-ghost use Rattle.kv_model.specs.Examples.{SinkFails, put_and_get, slot_a, tombstone_4, head_2_of_3};
+ghost use Rattle.kv_model.specs.Examples.{SinkFails, SinkFailsBeforeTheEnd, GoesOn, GroupsEnd};
+ghost use Rattle.kv_model.specs.Examples.{put_and_get, slot_a, tombstone_4, head_2_of_3};
 ghost use Rattle.kv_model.specs.Examples.{key_a, value_1};
+ghost use Rattle.kv_model.specs.BatchExamples.{NoNetChange, LastPut, ThirdIsFull, UpdatesWhereFull};
+ghost use Rattle.kv_model.specs.BatchExamples.{NoRoomYet, RoomThen, DeletedTwice, LastIsTakenFirst};
 
 use super::*;
 use std::test::Fail;
@@ -19,11 +22,28 @@ fn sessions_have_their_transcripts()
     ensures refused { RefusedThenPut }
     ensures cut { CutInside }
     ensures sink_fails { SinkFails }
+    ensures sink_fails_before { SinkFailsBeforeTheEnd }
+    ensures goes_on { GoesOn }
+{}
+
+fn groups_end_at_64_requests_or_a_flush()
+    ensures { GroupsEnd }
 {}
 
 fn a_put_and_a_get_agree_with_the_map()
     ensures agrees { AgreesWithMap true (only_class 7) [] 0 put_and_get }
     ensures ordered { RespectsOrder (put_and_get ∷ []) }
+{}
+
+fn batches_have_their_answers()
+    ensures none { NoNetChange }
+    ensures last { LastPut }
+    ensures full { ThirdIsFull }
+    ensures update { UpdatesWhereFull }
+    ensures no_room { NoRoomYet }
+    ensures room { RoomThen }
+    ensures twice { DeletedTwice }
+    ensures free { LastIsTakenFirst }
 {}
 
 fn items_have_their_classes()
@@ -59,11 +79,12 @@ fn slots_read_as_they_are_written()
 #[test]
 fn the_definitions_hold_of_the_worked_examples() {
     sessions_have_their_transcripts();
+    groups_end_at_64_requests_or_a_flush();
     a_put_and_a_get_agree_with_the_map();
+    batches_have_their_answers();
     items_have_their_classes();
     slots_have_their_places();
     slots_read_as_they_are_written();
-    stamps_rise();
 }
 
 #[test]

@@ -3,7 +3,7 @@ use Rattle.std.proofs.Common.{◌≡◌, ℕ, ◌+◌, ◌≤◌, Bool, true, fa
 use Rattle.std.proofs.Common.{map, filter, fold, take, ◌⊎◌, inl, inr, refl, sym, ap, subst, ◌∙◌, arith}
 use Rattle.std.specs.List.{AllByRecursion, flat_map}
 use Rattle.std.proofs.lemmas.Bool.{cases_lt}
-use Rattle.std.proofs.lemmas.List.{length-append, length-map, take_at}
+use Rattle.std.proofs.lemmas.List.{length-append, length-map, take_at, nil_from_length}
 use Rattle.std.proofs.lemmas.List.Elements.{filter-append}
 use Rattle.std.proofs.lemmas.Grind.{fold-append}
 use Rattle.kv_base.specs.declared.request.Request.{Request}
@@ -14,8 +14,7 @@ use Rattle.kv_base.specs.declared.cause.Cause.TheVariants.{End, Malformed, Limit
 use Rattle.kv_base.specs.declared.cause.Cause.TheVariants.{SinkFault}
 use Rattle.kv_model.specs.Frames.{HasReplyFrame, BeginsWithNoRequest, BeginsWithRequests, IsBad}
 use Rattle.kv_model.specs.Pairs.{Pair, requests_of, pairs_in, replies_in}
-use Rattle.kv_model.specs.Groups.{Groups, groups_of, all_groups, end_group, next_groups}
-use Rattle.kv_model.specs.Groups.{has_reply, GroupsHoldRequests}
+use Rattle.kv_model.specs.Groups.{groups_of, all_groups, has_reply, GroupsHoldRequests, OneGrouping}
 use Rattle.kv_model.specs.Transcript.{GoesOut, HasTranscript, EndsReading, Closes}
 use Rattle.kv_frames.proofs.StreamLemmas.{outcome_once, nothing_begins_none, requests_behind}
 use Rattle.kv_frames.proofs.StreamLemmas.{split_once, more_behind}
@@ -29,65 +28,6 @@ outcomes_same replies others given left has also p q =
     let also' = subst (λ (rs : List Reply). AllByRecursion HasReplyFrame rs) q.2 also in
     let same = outcome_once p.0 q.0 p.1 q.1 left has' also' (sym p.3 ∙ q.3) p.4 q.4 in
     p.2 ∙ ap (λ (out : List Reply). out ++ left) same ∙ sym q.2
-
--- ---- groups
-
--- a group that ended stays, and no empty one joins it
-end_none : (ended : List (List Request)) (current : List Request) (groups : Groups)
-    → groups ≡ record { ended = ended; current = current } → current ≡ []
-    → end_group groups ≡ groups
-end_none ended [] groups is none = rw is refl
-end_none ended (request ∷ requests) groups is none = absurd cc
-
--- behind a whole group, requests that have no reply make no other one
-flushes_add_none : (more : List Request) (groups : Groups) → groups.current ≡ []
-    → length (filter has_reply more) ≡ 0 → fold next_groups groups more ≡ groups
-flushes_add_none [] groups none few = refl
-flushes_add_none (Put key value ∷ more) groups none few = absurd (omega arith)
-flushes_add_none (Get key ∷ more) groups none few = absurd (omega arith)
-flushes_add_none (Delete key ∷ more) groups none few = absurd (omega arith)
-flushes_add_none (Flush ∷ more) groups none few =
-    flushes_add_none more (end_group groups) refl few
-    ∙ end_none groups.ended groups.current groups refl none
-
--- two pairs with one request and one reply
-pair_same : (p q : Pair) → p.request ≡ q.request → p.reply ≡ q.reply → p ≡ q
-pair_same p q request reply =
-    ap (λ (r : Request). let made : Pair = record { request = r; reply = p.reply } in made) request
-    ∙ ap (λ (r : Reply). let made : Pair = record { request = q.request; reply = r } in made) reply
-
--- a group and what follows are told by their requests and replies
-front_same : (group other behind beyond : List Pair) → requests_of group ≡ requests_of other
-    → map (λ pair. pair.reply) (group ++ behind) ≡ map (λ pair. pair.reply) (other ++ beyond)
-    → (group ≡ other)
-    × (map (λ pair. pair.reply) behind ≡ map (λ pair. pair.reply) beyond)
-front_same [] [] behind beyond is e = (refl, e)
-front_same [] (q ∷ other) behind beyond is e = absurd cc
-front_same (p ∷ group) [] behind beyond is e = absurd cc
-front_same (p ∷ group) (q ∷ other) behind beyond is e =
-    let request : p.request ≡ q.request = cc in
-    let reply : p.reply ≡ q.reply = cc in
-    let requests : requests_of group ≡ requests_of other = cc in
-    let replies : map (λ (pair : Pair). pair.reply) (group ++ behind)
-    ≡ map (λ (pair : Pair). pair.reply) (other ++ beyond) = cc in
-    let rest = front_same group other behind beyond requests replies in
-    let first = pair_same p q request reply in
-    (cc, rest.1)
-
--- groups are told by their requests and replies
-groups_same : (groups others : List (List Pair))
-    → map requests_of groups ≡ map requests_of others → replies_in groups ≡ replies_in others
-    → groups ≡ others
-groups_same [] [] is e = refl
-groups_same [] (other ∷ others) is e = absurd cc
-groups_same (group ∷ groups) [] is e = absurd cc
-groups_same (group ∷ groups) (other ∷ others) is e =
-    let first : requests_of group ≡ requests_of other = cc in
-    let later : map requests_of groups ≡ map requests_of others = cc in
-    let front = front_same group other (pairs_in groups) (pairs_in others) first e in
-    let rest = groups_same groups others later front.1 in
-    let here = front.0 in
-    cc
 
 -- each request of the groups has one reply
 replies_each : (groups : List (List Pair)) → length (replies_in groups)
@@ -106,10 +46,9 @@ replies_each (group ∷ groups) =
 
 -- ---- transcripts
 
--- the requests are all that begin what was taken, or they end with a whole group and no more is said
-abbrev Reached : List Request → List ℕ → List Reply → Type 0
-Reached handled rest closing = BeginsWithNoRequest rest
-    ⊎ (((groups_of handled).current ≡ []) × (closing ≡ []))
+-- no further request begins what was taken, or nothing was said behind the last reply
+abbrev Reached : List ℕ → List Reply → Type 0
+Reached rest closing = BeginsWithNoRequest rest ⊎ (closing ≡ [])
 
 bad_begins_none : (rest : List ℕ) (ended : Bool) → IsBad rest ended → BeginsWithNoRequest rest
 bad_begins_none rest true bad = bad.none
@@ -126,7 +65,7 @@ none_behind SinkFault taken rest ended closing ends = absurd ends
 
 reached : (cause : Cause) (taken rest : List ℕ) (ended : Bool) (handled : List Request)
     (closing left : List Reply) → Closes cause taken rest ended (groups_of handled) closing left
-    → Reached handled rest closing
+    → Reached rest closing
 reached End taken rest ended handled closing left closes =
     inl (none_behind End taken rest ended closing closes)
 reached (Malformed offset) taken rest ended handled closing left closes =
@@ -137,50 +76,50 @@ reached SourceFault taken rest ended handled closing left closes =
     inl (none_behind SourceFault taken rest ended closing closes)
 reached SinkFault taken rest ended handled closing left closes =
     elim closes [
-      | inl off ↦ inr (off.whole, off.nothing)
+      | inl off ↦ inr off.nothing
       | inr off ↦ inl (none_behind off.why taken rest ended closing off.ends)
     ]
 
--- requests that end with a whole group, and more that have no more replies, make the same groups
-more_same : (handled others : List Request) (rest behind taken : List ℕ)
+-- requests behind which none wants a reply make no more groups
+more_same : (one : OneGrouping) (handled others : List Request) (rest behind taken : List ℕ)
     → BeginsWithRequests taken handled rest → BeginsWithRequests taken others behind
-    → length handled ≤ length others → (groups_of handled).current ≡ []
+    → length handled ≤ length others
     → length (filter has_reply others) ≤ length (filter has_reply handled)
-    → groups_of others ≡ groups_of handled
-more_same handled others rest behind taken p q fewer whole few =
+    → all_groups (groups_of others) ≡ all_groups (groups_of handled)
+more_same one handled others rest behind taken p q fewer few =
     let more = requests_behind handled others rest behind fewer p.each q.each
     (sym p.parts ∙ q.parts) in
     let counted = ap (λ (rs : List Request). length (filter has_reply rs)) more.1
     ∙ ap (λ (rs : List Request). length rs) (filter-append has_reply handled more.0)
     ∙ length-append (filter has_reply handled) (filter has_reply more.0) in
-    ap groups_of more.1 ∙ fold-append next_groups _ handled more.0
-    ∙ flushes_add_none more.0 (groups_of handled) whole (omega (arith, few, counted))
+    ap (λ (rs : List Request). all_groups (groups_of rs)) more.1
+    ∙ one.same handled more.0 (nil_from_length _ (omega (arith, few, counted)))
 
 -- two lists of requests that begin the same bytes, as far as they reach and as many replies as they
 -- have, make the same groups
-reached_same : (handled others : List Request) (rest behind taken : List ℕ)
+reached_same : (one : OneGrouping) (handled others : List Request) (rest behind taken : List ℕ)
     (closing last : List Reply)
     → BeginsWithRequests taken handled rest → BeginsWithRequests taken others behind
     → length (filter has_reply handled) + length closing
     ≡ length (filter has_reply others) + length last
-    → Reached handled rest closing → Reached others behind last
-    → groups_of handled ≡ groups_of others
-reached_same handled others rest behind taken closing last p q n here there =
+    → Reached rest closing → Reached behind last
+    → all_groups (groups_of handled) ≡ all_groups (groups_of others)
+reached_same one handled others rest behind taken closing last p q n here there =
     let bytes = sym p.parts ∙ q.parts in
     elim here [
       | inl none ↦
           elim there [
             | inl nor ↦
                 let split = split_once handled others rest behind p.each q.each bytes none nor in
-                ap groups_of split.0
+                ap (λ (rs : List Request). all_groups (groups_of rs)) split.0
             | inr off ↦
                 elim (cases_lt (length handled) (length others)) [
                   | inl lt ↦
                       absurd (more_behind others handled behind rest lt q.each p.each (sym bytes)
                       none)
                   | inr le ↦
-                      more_same others handled behind rest taken q p le off.0
-                      (omega (arith, n, ap (λ (rs : List Reply). length rs) off.1))
+                      more_same one others handled behind rest taken q p le
+                      (omega (arith, n, ap (λ (rs : List Reply). length rs) off))
                 ]
           ]
       | inr off ↦
@@ -190,12 +129,12 @@ reached_same handled others rest behind taken closing last p q n here there =
                   | inl nor ↦
                       absurd (more_behind handled others rest behind lt p.each q.each bytes nor)
                   | inr also ↦
-                      more_same others handled behind rest taken q p (omega arith) also.0
-                      (omega (arith, n, ap (λ (rs : List Reply). length rs) also.1))
+                      more_same one others handled behind rest taken q p (omega arith)
+                      (omega (arith, n, ap (λ (rs : List Reply). length rs) also))
                 ]
             | inr le ↦
-                sym (more_same handled others rest behind taken p q le off.0
-                (omega (arith, n, ap (λ (rs : List Reply). length rs) off.1)))
+                sym (more_same one handled others rest behind taken p q le
+                (omega (arith, n, ap (λ (rs : List Reply). length rs) off)))
           ]
     ]
 
@@ -209,11 +148,11 @@ replies_counted law groups handled grouped =
     ∙ ap (λ (rs : List Request). length rs) (law.parts handled)
 
 -- two transcripts with the same ends are one
-pub transcripts_same : GroupsHoldRequests → (taken : List ℕ) (ended : Bool) (given : List ℕ)
+pub transcripts_same : GroupsHoldRequests → OneGrouping → (taken : List ℕ) (ended : Bool) (given : List ℕ)
     (left : List Reply) (cause : Cause) (groups others : List (List Pair))
     → HasTranscript taken ended given left cause groups
     → HasTranscript taken ended given left cause others → groups ≡ others
-transcripts_same law taken ended given left cause groups others p q =
+transcripts_same law one taken ended given left cause groups others p q =
     let both = outcomes_same (replies_in groups ++ p.closing) (replies_in others ++ q.closing)
     given left p.framed q.framed p.out q.out in
     let counts : length (filter has_reply p.handled) + length p.closing
@@ -226,10 +165,10 @@ transcripts_same law taken ended given left cause groups others p q =
       replies_counted law groups p.handled p.grouped,
       replies_counted law others q.handled q.grouped,
     ) in
-    let same = reached_same p.handled q.handled p.rest q.rest taken p.closing q.closing p.fronts
+    let same = reached_same one p.handled q.handled p.rest q.rest taken p.closing q.closing p.fronts
     q.fronts counts (reached cause taken p.rest ended p.handled p.closing left p.closes)
     (reached cause taken q.rest ended q.handled q.closing left q.closes) in
-    let requests = p.grouped ∙ ap all_groups same ∙ sym q.grouped in
+    let requests = p.grouped ∙ same ∙ sym q.grouped in
     let n = length (replies_in groups) in
     let each : length (replies_in others) ≡ n =
     replies_each others
@@ -238,4 +177,4 @@ transcripts_same law taken ended given left cause groups others p q =
     let replies : replies_in groups ≡ replies_in others =
     sym (take_at (replies_in groups) p.closing n refl)
     ∙ ap (λ (rs : List Reply). take n rs) both ∙ take_at (replies_in others) q.closing n each in
-    groups_same groups others requests replies
+    one.pairs groups others requests replies

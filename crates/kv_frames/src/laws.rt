@@ -3,7 +3,7 @@ ghost use Rattle.kv_frames.specs.Laws.{OneTranscript, WrittenAgain, PartialBegin
 ghost use Rattle.kv_frames.specs.Laws.{MalformedStays};
 ghost use Rattle.kv_frames.specs.Laws.{NextRequest, NextPiece};
 
-use kv_model::groups_hold_requests;
+use kv_model::{groups_hold_requests, one_grouping};
 
 /// A request has one frame at most, and no request's frame begins another: bytes begin with one
 /// request at most, and it leaves one rest.
@@ -63,4 +63,5 @@ pub fn one_transcript()
     ensures { OneTranscript }
 {
     groups_hold_requests();
+    one_grouping();
 }

@@ -1,2 +1,3 @@
 mod ShelfLemmas
+mod FileLemmas
 mod MemorySiteLemmas

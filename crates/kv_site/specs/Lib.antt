@@ -1,5 +1,6 @@
 pub mod Held
-pub mod FileMarks
+pub mod PageFile
+pub mod FilePages
 pub mod FileSite
 pub mod Shelves
 pub mod MemorySite

@@ -49,14 +49,14 @@ image-put {F} reads files f file d page content lt put =
     (λ g p.
     let at : F → List ℕ = λ x. reads x p in
     let as_set : image_in reads (set files f file) g p
-        ≡ get_or (set (map at files) f (at file)) g zero_page =
-        ap (λ pages. get_or pages g zero_page) (map-set at files f file) in
+    ≡ get_or (set (map at files) f (at file)) g zero_page =
+    ap (λ pages. get_or pages g zero_page) (map-set at files f file) in
     let here : g ≡ f → image_in reads (set files f file) g p ≡ at file = λ same.
-        as_set ∙ ap (λ i. get_or (set (map at files) f (at file)) i zero_page) same
-        ∙ get_or-set_same (map at files) f (at file) zero_page
-        (omega (arith, lt, length-map files at)) in
+    as_set ∙ ap (λ i. get_or (set (map at files) f (at file)) i zero_page) same
+    ∙ get_or-set_same (map at files) f (at file) zero_page
+    (omega (arith, lt, length-map files at)) in
     let content_is : at file ≡ put_page (reads (get_or files f d)) page content p =
-        ap (λ (r : ℕ → List ℕ). r p) put in
+    ap (λ (r : ℕ → List ℕ). r p) put in
     elim (cases_eq g f) [
       | inr other ↦ as_set ∙ get_or-set_other (map at files) f g (at file) zero_page other
           ∙ sym (with_page-other (image_in reads files) f page content g p (λ same _. other same))
@@ -103,11 +103,11 @@ pub counted_in : {F T E : Type 0} (faults : F → ℕ) (files : List F) (f : ℕ
     → CountedIn faults f files (set files f file) result
 counted_in faults files f file d result lt counted =
     let was : faults (get_or files f d) ≡ get_or (map faults files) f 0 =
-        sym (get_or-map faults files f d 0 lt) in
+    sym (get_or-map faults files f d 0 lt) in
     let now : faults file ≡ get_or (map faults (set files f file)) f 0 =
-        sym (ap (λ counts. get_or counts f 0) (map-set faults files f file)
-        ∙ get_or-set_same (map faults files) f (faults file) 0
-        (omega (arith, lt, length-map files faults))) in
+    sym (ap (λ counts. get_or counts f 0) (map-set faults files f file)
+    ∙ get_or-set_same (map faults files) f (faults file) 0
+    (omega (arith, lt, length-map files faults))) in
     subst₂ (λ (before after : ℕ). Counted before after result) was now counted
 
 -- what follows from what Ok means

@@ -2,6 +2,6 @@ pub mod Held
 pub mod PageFile
 pub mod FilePages
 pub mod FileSite
-pub mod Shelves
+pub mod Entries
 pub mod MemorySite
 pub mod MemoryFields

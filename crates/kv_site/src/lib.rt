@@ -3,6 +3,8 @@
 #![tactic(auto)]
 
 mod ends;
+mod entries;
+mod entry;
 mod fault;
 mod file_disk;
 mod file_pages;
@@ -11,10 +13,8 @@ mod folder;
 mod memory_site;
 mod page_file;
 mod page_io;
-mod shelf;
-mod shelves;
 mod site;
-mod tally;
+mod take_counter;
 #[cfg(test)]
 mod tests;
 

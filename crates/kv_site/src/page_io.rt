@@ -10,8 +10,7 @@ pub const PAGE: usize = 4096;
 
 /// Reads a page that begins at the offset. A read that gives fewer bytes goes on until one gives
 /// none; what the file doesn't have is zeros.
-pub fn read_page<F: FileExt>(file: &F, offset: u64, page: &mut [u8; 4096]) -> io::Result<()>
-{
+pub fn read_page<F: FileExt>(file: &F, offset: u64, page: &mut [u8; 4096]) -> io::Result<()> {
     let mut at = 0;
     while at < PAGE {
         let n = file.read_at(&mut page[at..], offset.wrapping_add(at as u64))?;
@@ -26,8 +25,7 @@ pub fn read_page<F: FileExt>(file: &F, offset: u64, page: &mut [u8; 4096]) -> io
 
 /// Writes a page at the offset. A write that takes fewer bytes goes on, and one that takes none is
 /// an error.
-pub fn write_page<F: FileExt>(file: &F, offset: u64, page: &[u8; 4096]) -> io::Result<()>
-{
+pub fn write_page<F: FileExt>(file: &F, offset: u64, page: &[u8; 4096]) -> io::Result<()> {
     let mut at = 0;
     while at < page.len() {
         match file.write_at(&page[at..], offset.wrapping_add(at as u64))? {

@@ -22,10 +22,22 @@ returns-in-Err-clause-marks g c =
     let old : List Bool = map synced c.args.files.now.items in
     let was = c.index_mut.result.now in
     let here : was ≡ get_or files at was = c.index_mut.ensures.value in
-    let size : at < length files = omega (arith, c.loop-at-test.true, c.len-at-end.ensures,
-        c.loop-at.invariant.length, c.requires, c.loop-at.files.ok.0) in
-    let old_size : at < length old = omega (arith, c.loop-at-test.true, c.len-at-end.ensures,
-        c.requires, c.args.files.now.ok.0, length-map c.args.files.now.items synced) in (
+    let size : at < length files = omega (
+      arith,
+      c.loop-at-test.true,
+      c.len-at-end.ensures,
+      c.loop-at.invariant.length,
+      c.requires,
+      c.loop-at.files.ok.0,
+    ) in
+    let old_size : at < length old = omega (
+      arith,
+      c.loop-at-test.true,
+      c.len-at-end.ensures,
+      c.requires,
+      c.args.files.now.ok.0,
+      length-map c.args.files.now.items synced,
+    ) in (
       at,
       omega (arith, c.loop-at-test.true, c.len-at-end.ensures, c.requires),
       sym (marks-here old at true old_size)
@@ -44,8 +56,14 @@ loop-at-preserved g c =
     let old : List Bool = map synced c.args.files.now.items in
     let was = c.index_mut.result.now in
     let here : was ≡ get_or files at was = c.index_mut.ensures.value in
-    let old_size : at < length old = omega (arith, c.loop-at-test.true, c.len-at-end.ensures,
-        c.requires, c.args.files.now.ok.0, length-map c.args.files.now.items synced) in
+    let old_size : at < length old = omega (
+      arith,
+      c.loop-at-test.true,
+      c.len-at-end.ensures,
+      c.requires,
+      c.args.files.now.ok.0,
+      length-map c.args.files.now.items synced,
+    ) in
     let next : suc at ≡ at + 1 = omega arith in
     record {
       length = c.loop-at.invariant.length;

@@ -7,7 +7,7 @@ use kv_base::Calls;
 
 /// Counts the takes of a site in memory and those that failed, and knows which fail.
 #[derive(Debug, Drop)]
-pub struct Tally {
+pub struct TakeCounter {
     /// The numbers of the takes that fail.
     pub failing: Calls,
     /// How many takes there were.
@@ -16,7 +16,7 @@ pub struct Tally {
     pub faults: u64,
 }
 
-impl Tally {
+impl TakeCounter {
     /// Counts a take, and answers whether it is one that fails.
     pub fn begin(&mut self) -> bool
         ensures listed { IsTrue result ↔ Contains self.old.failing (next_count self.old.takes) }

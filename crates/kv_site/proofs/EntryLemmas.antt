@@ -10,8 +10,8 @@ use Rattle.std.proofs.lemmas.Bool.{and_left, and_right, eqb-true, eq-eqb, ne_eqb
 use Rattle.std.proofs.lemmas.Iterator.Adapters.{position_from-zero}
 use Rattle.std.proofs.lemmas.List.Quantifiers.{position-Some}
 use Rattle.std.proofs.lemmas.Slice.Eq.{bytes_eq-Decides}
-use Rattle.kv_site.specs.declared.shelf.Shelf.{Shelf}
-use Rattle.kv_site.specs.Shelves.{is_at, is_home, homed, thing_at, home_of, Puts, Takes, Gives}
+use Rattle.kv_site.specs.declared.entry.Entry.{Entry}
+use Rattle.kv_site.specs.Entries.{is_at, is_home, homed, thing_at, home_of, Puts, Takes, Gives}
 
 -- the first element that passes stands at this index and is this one
 abbrev pub IsFirst : {X : Type 0} → (X → Bool) → List X → ℕ → X → Type 0
@@ -63,14 +63,14 @@ pub none_pass : {X : Type 0} (p : X → Bool) (xs : List X) → position p xs �
 none_pass p xs found = none_pass-from p 0 xs (sym (position_from-zero p xs) ∙ found)
 
 -- what the place of a number in a folder has
-pub is_at-parts : {T : Type 0} (folder : List ℕ) (n : ℕ) (s : Shelf T) → is_at folder n s ≡ true
+pub is_at-parts : {T : Type 0} (folder : List ℕ) (n : ℕ) (s : Entry T) → is_at folder n s ≡ true
     → (s.folder ≡ folder) × (s.number ≡ n)
 is_at-parts folder n s at =
     let parts = and_parts (bytes_eq s.folder folder) (eqb s.number n) at in
     ((bytes_eq-Decides s.folder folder).0 parts.0, eqb-true s.number n parts.1)
 
 -- it isn't the place of another number or in another folder
-pub is_at-other : {T : Type 0} (folder f : List ℕ) (n m : ℕ) (s : Shelf T) → is_at folder n s ≡ true
+pub is_at-other : {T : Type 0} (folder f : List ℕ) (n m : ℕ) (s : Entry T) → is_at folder n s ≡ true
     → (f ≡ folder → m ≡ n → ⊥) → is_at f m s ≡ false
 is_at-other folder f n m s at other = elim (cases_Bool (is_at f m s)) [
   | inl passes ↦ let here = is_at-parts folder n s at in let there = is_at-parts f m s passes in
@@ -79,28 +79,28 @@ is_at-other folder f n m s at other = elim (cases_Bool (is_at f m s)) [
 ]
 
 -- the folder and the number make the test true
-pub is_at-here : {T : Type 0} (folder : List ℕ) (n : ℕ) (s : Shelf T) → s.folder ≡ folder
+pub is_at-here : {T : Type 0} (folder : List ℕ) (n : ℕ) (s : Entry T) → s.folder ≡ folder
     → s.number ≡ n → is_at folder n s ≡ true
 is_at-here folder n s same_folder same_number = and_from (bytes_eq s.folder folder) (eqb s.number n)
     ((bytes_eq-Decides s.folder folder).1 same_folder) (eq-eqb s.number n same_number)
 
 -- what the first place of a number in a folder holds
-pub thing_at-first : {T : Type 0} (folder : List ℕ) (n : ℕ) (xs : List (Shelf T)) (i : ℕ)
-    (s : Shelf T) → IsFirst (is_at folder n) xs i s → thing_at xs folder n ≡ s.thing
+pub thing_at-first : {T : Type 0} (folder : List ℕ) (n : ℕ) (xs : List (Entry T)) (i : ℕ)
+    (s : Entry T) → IsFirst (is_at folder n) xs i s → thing_at xs folder n ≡ s.thing
 thing_at-first folder n [] i s first = absurd first
 thing_at-first folder n (x ∷ xs) zero s first = rw first.0 (cond-true _ _ _ first.1)
 thing_at-first folder n (x ∷ xs) (suc i) s first = cond-false _ _ _ first.0
     ∙ thing_at-first folder n xs i s first.1
 
 -- where there is no such place
-pub thing_at-none : {T : Type 0} (folder : List ℕ) (n : ℕ) (xs : List (Shelf T))
+pub thing_at-none : {T : Type 0} (folder : List ℕ) (n : ℕ) (xs : List (Entry T))
     → NonePass (is_at folder n) xs → thing_at xs folder n ≡ None
 thing_at-none folder n [] none = refl
 thing_at-none folder n (x ∷ xs) none = cond-false _ _ _ none.0 ∙ thing_at-none folder n xs none.1
 
 -- another thing in that place is held there
-pub thing_at-set : {T : Type 0} (folder : List ℕ) (n : ℕ) (xs : List (Shelf T)) (i : ℕ)
-    (s : Shelf T) (thing : Option T) → IsFirst (is_at folder n) xs i s
+pub thing_at-set : {T : Type 0} (folder : List ℕ) (n : ℕ) (xs : List (Entry T)) (i : ℕ)
+    (s : Entry T) (thing : Option T) → IsFirst (is_at folder n) xs i s
     → thing_at (set xs i (record s { thing = thing })) folder n ≡ thing
 thing_at-set folder n [] i s thing first = absurd first
 thing_at-set folder n (x ∷ xs) zero s thing first = cond-true _ _ _ first.1
@@ -108,8 +108,8 @@ thing_at-set folder n (x ∷ xs) (suc i) s thing first = cond-false _ _ _ first.
     ∙ thing_at-set folder n xs i s thing first.1
 
 -- and nothing else changes
-pub thing_at-set_other : {T : Type 0} (folder f : List ℕ) (n m : ℕ) (xs : List (Shelf T)) (i : ℕ)
-    (s : Shelf T) (thing : Option T) → IsFirst (is_at folder n) xs i s → (f ≡ folder → m ≡ n → ⊥)
+pub thing_at-set_other : {T : Type 0} (folder f : List ℕ) (n m : ℕ) (xs : List (Entry T)) (i : ℕ)
+    (s : Entry T) (thing : Option T) → IsFirst (is_at folder n) xs i s → (f ≡ folder → m ≡ n → ⊥)
     → thing_at (set xs i (record s { thing = thing })) f m ≡ thing_at xs f m
 thing_at-set_other folder f n m [] i s thing first other = absurd first
 thing_at-set_other folder f n m (x ∷ xs) zero s thing first other =
@@ -119,8 +119,8 @@ thing_at-set_other folder f n m (x ∷ xs) (suc i) s thing first other =
     ap (cond (is_at f m x) x.thing) (thing_at-set_other folder f n m xs i s thing first.1 other)
 
 -- nor where things were taken from
-pub home_of-set : {T : Type 0} (p : Shelf T → Bool) (m : ℕ) (xs : List (Shelf T)) (i : ℕ)
-    (s : Shelf T) (thing : Option T) → IsFirst p xs i s
+pub home_of-set : {T : Type 0} (p : Entry T → Bool) (m : ℕ) (xs : List (Entry T)) (i : ℕ)
+    (s : Entry T) (thing : Option T) → IsFirst p xs i s
     → home_of (set xs i (record s { thing = thing })) m ≡ home_of xs m
 home_of-set p m [] i s thing first = absurd first
 home_of-set p m (x ∷ xs) zero s thing first = rw first.0 refl
@@ -128,8 +128,8 @@ home_of-set p m (x ∷ xs) (suc i) s thing first =
     ap (cond (is_home m x) (Some x.folder)) (home_of-set p m xs i s thing first.1)
 
 -- the place is still the first
-pub is_first-set : {T : Type 0} (folder : List ℕ) (n : ℕ) (xs : List (Shelf T)) (i : ℕ)
-    (s : Shelf T) (thing : Option T) → IsFirst (is_at folder n) xs i s
+pub is_first-set : {T : Type 0} (folder : List ℕ) (n : ℕ) (xs : List (Entry T)) (i : ℕ)
+    (s : Entry T) (thing : Option T) → IsFirst (is_at folder n) xs i s
     → IsFirst (is_at folder n) (set xs i (record s { thing = thing })) i
     (record s { thing = thing })
 is_first-set folder n [] i s thing first = absurd first
@@ -138,7 +138,7 @@ is_first-set folder n (x ∷ xs) (suc i) s thing first =
     (first.0, is_first-set folder n xs i s thing first.1)
 
 -- a place behind the others holds its thing where no other is of its number and folder
-pub thing_at-push : {T : Type 0} (folder : List ℕ) (n : ℕ) (xs : List (Shelf T)) (s : Shelf T)
+pub thing_at-push : {T : Type 0} (folder : List ℕ) (n : ℕ) (xs : List (Entry T)) (s : Entry T)
     → NonePass (is_at folder n) xs → is_at folder n s ≡ true → thing_at (xs ++ s ∷ []) folder n
     ≡ s.thing
 thing_at-push folder n [] s none at = cond-true _ _ _ at
@@ -146,28 +146,28 @@ thing_at-push folder n (x ∷ xs) s none at = cond-false _ _ _ none.0
     ∙ thing_at-push folder n xs s none.1 at
 
 -- and changes nothing else
-pub thing_at-push_other : {T : Type 0} (f : List ℕ) (m : ℕ) (xs : List (Shelf T)) (s : Shelf T)
+pub thing_at-push_other : {T : Type 0} (f : List ℕ) (m : ℕ) (xs : List (Entry T)) (s : Entry T)
     → is_at f m s ≡ false → thing_at (xs ++ s ∷ []) f m ≡ thing_at xs f m
 thing_at-push_other f m [] s other = cond-false _ _ _ other
 thing_at-push_other f m (x ∷ xs) s other =
     ap (cond (is_at f m x) x.thing) (thing_at-push_other f m xs s other)
 
 -- nor where things were taken from, as none was from it
-pub home_of-push : {T : Type 0} (m : ℕ) (xs : List (Shelf T)) (s : Shelf T) → s.home ≡ false
+pub home_of-push : {T : Type 0} (m : ℕ) (xs : List (Entry T)) (s : Entry T) → s.home ≡ false
     → home_of (xs ++ s ∷ []) m ≡ home_of xs m
 home_of-push m [] s never = cond-false _ _ _ (and_left s.home (eqb s.number m) never)
 home_of-push m (x ∷ xs) s never =
     ap (cond (is_home m x) (Some x.folder)) (home_of-push m xs s never)
 
 -- the first place that is a home has the folder
-pub home_of-first : {T : Type 0} (n : ℕ) (xs : List (Shelf T)) (i : ℕ) (s : Shelf T)
+pub home_of-first : {T : Type 0} (n : ℕ) (xs : List (Entry T)) (i : ℕ) (s : Entry T)
     → IsFirst (is_home n) xs i s → home_of xs n ≡ Some s.folder
 home_of-first n [] i s first = absurd first
 home_of-first n (x ∷ xs) zero s first = rw first.0 (cond-true _ _ _ first.1)
 home_of-first n (x ∷ xs) (suc i) s first = cond-false _ _ _ first.0 ∙ home_of-first n xs i s first.1
 
 -- and without one nothing was taken
-pub home_of-none : {T : Type 0} (n : ℕ) (xs : List (Shelf T)) → NonePass (is_home n) xs
+pub home_of-none : {T : Type 0} (n : ℕ) (xs : List (Entry T)) → NonePass (is_home n) xs
     → home_of xs n ≡ None
 home_of-none n [] none = refl
 home_of-none n (x ∷ xs) none = cond-false _ _ _ none.0 ∙ home_of-none n xs none.1
@@ -187,37 +187,37 @@ first_passes p (x ∷ xs) zero s first = first.1
 first_passes p (x ∷ xs) (suc i) s first = first_passes p xs i s first.1
 
 -- the home of a number is a place of that number in its folder
-pub is_at-home : {T : Type 0} (n : ℕ) (s : Shelf T) → is_home n s ≡ true → is_at s.folder n s ≡ true
+pub is_at-home : {T : Type 0} (n : ℕ) (s : Entry T) → is_home n s ≡ true → is_at s.folder n s ≡ true
 is_at-home n s home =
     is_at-here s.folder n s refl (eqb-true s.number n (and_parts s.home (eqb s.number n) home).1)
 
 -- what noting a take leaves of a place
-homed-folder : {T : Type 0} (folder : List ℕ) (n : ℕ) (s : Shelf T)
+homed-folder : {T : Type 0} (folder : List ℕ) (n : ℕ) (s : Entry T)
     → (homed folder n s).folder ≡ s.folder
 homed-folder folder n s =
     elim (eqb s.number n) as (λ b. (cond b (record s { home = bytes_eq s.folder folder }) s).folder
     ≡ s.folder) [ true ↦ refl | false ↦ refl ]
 
-homed-number : {T : Type 0} (folder : List ℕ) (n : ℕ) (s : Shelf T)
+homed-number : {T : Type 0} (folder : List ℕ) (n : ℕ) (s : Entry T)
     → (homed folder n s).number ≡ s.number
 homed-number folder n s =
     elim (eqb s.number n) as (λ b. (cond b (record s { home = bytes_eq s.folder folder }) s).number
     ≡ s.number) [ true ↦ refl | false ↦ refl ]
 
-homed-thing : {T : Type 0} (folder : List ℕ) (n : ℕ) (s : Shelf T)
+homed-thing : {T : Type 0} (folder : List ℕ) (n : ℕ) (s : Entry T)
     → (homed folder n s).thing ≡ s.thing
 homed-thing folder n s =
     elim (eqb s.number n) as (λ b. (cond b (record s { home = bytes_eq s.folder folder }) s).thing
     ≡ s.thing) [ true ↦ refl | false ↦ refl ]
 
-homed-home : {T : Type 0} (folder : List ℕ) (n : ℕ) (s : Shelf T)
+homed-home : {T : Type 0} (folder : List ℕ) (n : ℕ) (s : Entry T)
     → (homed folder n s).home ≡ cond (eqb s.number n) (bytes_eq s.folder folder) s.home
 homed-home folder n s =
     elim (eqb s.number n) as (λ b. (cond b (record s { home = bytes_eq s.folder folder }) s).home
     ≡ cond b (bytes_eq s.folder folder) s.home) [ true ↦ refl | false ↦ refl ]
 
 -- noting a take changes nothing that is held
-pub thing_at-homed : {T : Type 0} (folder f : List ℕ) (n m : ℕ) (xs : List (Shelf T))
+pub thing_at-homed : {T : Type 0} (folder f : List ℕ) (n m : ℕ) (xs : List (Entry T))
     → thing_at (map (homed folder n) xs) f m ≡ thing_at xs f m
 thing_at-homed folder f n m [] = refl
 thing_at-homed folder f n m (x ∷ xs) =
@@ -229,7 +229,7 @@ thing_at-homed folder f n m (x ∷ xs) =
     )
 
 -- once a take is noted a place of the number is its home where it is in the folder
-is_home-homed : {T : Type 0} (folder : List ℕ) (n : ℕ) (s : Shelf T) → is_home n (homed folder n s)
+is_home-homed : {T : Type 0} (folder : List ℕ) (n : ℕ) (s : Entry T) → is_home n (homed folder n s)
     ≡ is_at folder n s
 is_home-homed folder n s =
     let by_cases : (b e h : Bool) → (cond b e h && b) ≡ (e && b) =
@@ -246,7 +246,7 @@ is_home-homed folder n s =
     cc
 
 -- and for another number nothing changes
-is_home-homed_other : {T : Type 0} (folder : List ℕ) (n m : ℕ) (s : Shelf T) → m ≢ n
+is_home-homed_other : {T : Type 0} (folder : List ℕ) (n m : ℕ) (s : Entry T) → m ≢ n
     → is_home m (homed folder n s) ≡ is_home m s
 is_home-homed_other folder n m s other =
     let number_is = homed-number folder n s in
@@ -265,8 +265,8 @@ is_home-homed_other folder n m s other =
     ]
 
 -- noting a take makes the folder the home of the number
-pub home_of-homed : {T : Type 0} (folder : List ℕ) (n : ℕ) (xs : List (Shelf T)) (i : ℕ)
-    (s : Shelf T) → IsFirst (is_at folder n) xs i s → home_of (map (homed folder n) xs) n
+pub home_of-homed : {T : Type 0} (folder : List ℕ) (n : ℕ) (xs : List (Entry T)) (i : ℕ)
+    (s : Entry T) → IsFirst (is_at folder n) xs i s → home_of (map (homed folder n) xs) n
     ≡ Some folder
 home_of-homed folder n [] i s first = absurd first
 home_of-homed folder n (x ∷ xs) zero s first =
@@ -278,7 +278,7 @@ home_of-homed folder n (x ∷ xs) (suc i) s first =
     cond-false _ _ _ home ∙ home_of-homed folder n xs i s first.1
 
 -- and leaves the homes of other numbers
-pub home_of-homed_other : {T : Type 0} (folder : List ℕ) (n m : ℕ) (xs : List (Shelf T)) → m ≢ n
+pub home_of-homed_other : {T : Type 0} (folder : List ℕ) (n m : ℕ) (xs : List (Entry T)) → m ≢ n
     → home_of (map (homed folder n) xs) m ≡ home_of xs m
 home_of-homed_other folder n m [] other = refl
 home_of-homed_other folder n m (x ∷ xs) other =
@@ -290,7 +290,7 @@ home_of-homed_other folder n m (x ∷ xs) other =
     )
 
 -- a thing is put in the first place of its number and folder
-pub puts-set : {T : Type 0} (folder : List ℕ) (n : ℕ) (xs : List (Shelf T)) (i : ℕ) (s : Shelf T)
+pub puts-set : {T : Type 0} (folder : List ℕ) (n : ℕ) (xs : List (Entry T)) (i : ℕ) (s : Entry T)
     (thing : T) → IsFirst (is_at folder n) xs i s
     → Puts xs (set xs i (record s { thing = Some thing })) folder n thing
 puts-set folder n xs i s thing first = record {
@@ -300,7 +300,7 @@ puts-set folder n xs i s thing first = record {
 }
 
 -- and behind the others where there is none
-pub puts-push : {T : Type 0} (folder : List ℕ) (n : ℕ) (xs : List (Shelf T)) (s : Shelf T)
+pub puts-push : {T : Type 0} (folder : List ℕ) (n : ℕ) (xs : List (Entry T)) (s : Entry T)
     (thing : T) → NonePass (is_at folder n) xs → s.folder ≡ folder → s.number ≡ n
     → s.thing ≡ Some thing → s.home ≡ false
     → Puts xs (xs ++ s ∷ []) folder n thing
@@ -313,7 +313,7 @@ puts-push folder n xs s thing none in_folder of_number holds never =
     }
 
 -- a thing is taken from the first place of its number and folder
-pub takes-set : {T : Type 0} (folder : List ℕ) (n : ℕ) (xs : List (Shelf T)) (i : ℕ) (s : Shelf T)
+pub takes-set : {T : Type 0} (folder : List ℕ) (n : ℕ) (xs : List (Entry T)) (i : ℕ) (s : Entry T)
     (thing : T) → IsFirst (is_at folder n) xs i s → s.thing ≡ Some thing
     → Takes xs (map (homed folder n) (set xs i (record s { thing = None }))) folder n thing
 takes-set folder n xs i s thing first holds =
@@ -330,7 +330,7 @@ takes-set folder n xs i s thing first holds =
     }
 
 -- a thing is given back to the first place of its number in the folder from which it was taken
-pub gives-set : {T : Type 0} (n : ℕ) (folder : List ℕ) (xs : List (Shelf T)) (i : ℕ) (s : Shelf T)
+pub gives-set : {T : Type 0} (n : ℕ) (folder : List ℕ) (xs : List (Entry T)) (i : ℕ) (s : Entry T)
     (thing : T) → home_of xs n ≡ Some folder → IsFirst (is_at folder n) xs i s
     → Gives xs (set xs i (record s { thing = Some thing })) n thing
 gives-set n folder xs i s thing home first = record {
@@ -342,7 +342,7 @@ gives-set n folder xs i s thing home first = record {
 }
 
 -- and dropped where it was taken from nowhere
-pub gives-none : {T : Type 0} (n : ℕ) (xs : List (Shelf T)) (thing : T) → home_of xs n ≡ None
+pub gives-none : {T : Type 0} (n : ℕ) (xs : List (Entry T)) (thing : T) → home_of xs n ≡ None
     → Gives xs xs n thing
 gives-none n xs thing none = record {
   back = λ f is. absurd (let both : Some f ≡ None = sym is ∙ none in cc);

@@ -1,12 +1,12 @@
 ghost use Rattle.std.specs.Prelude.{◌≡◌, ◌&&◌, ◌==◌};
 ghost use Rattle.std.specs.Str.{bytes_eq};
-ghost use Rattle.kv_site.specs.Shelves.{is_at, is_home, homed};
+ghost use Rattle.kv_site.specs.Entries.{is_at, is_home, homed};
 
 use kv_base::Bytes;
 
 /// A place of a site in memory, which holds a thing or is empty.
 #[derive(Drop)]
-pub struct Shelf<T> {
+pub struct Entry<T> {
     /// The folder in which it stands. Things without a folder stand in the one that has no name.
     pub folder: Bytes,
     /// The number of the worker or of the session.
@@ -17,7 +17,7 @@ pub struct Shelf<T> {
     pub home: bool,
 }
 
-impl<T> Shelf<T> {
+impl<T> Entry<T> {
     /// Whether it is the place of this number in this folder.
     pub fn is_at(&self, folder: &[u8], number: u32) -> bool
         ensures { result ≡ is_at folder.now number self.now }

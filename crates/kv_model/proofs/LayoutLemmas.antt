@@ -4,15 +4,7 @@ use Rattle.std.proofs.Common.{cond, List, [], ◌∷◌, length, Option, None, S
 use Rattle.std.proofs.Common.{subst, arith, is_some, true≢false, Contains}
 use Rattle.std.specs.List.{AllByRecursion, find}
 use Rattle.kv_model.specs.Pairwise.{Pairwise}
-
--- an element is the first one or in the rest
-Contains-cons : (first : ℕ) (rest : List ℕ) (x : ℕ) → Contains (first ∷ rest) x
-    → (first ≡ x) ⊎ Contains rest x
-Contains-cons first rest x (zero, inside, is) = inl is
-Contains-cons first rest x (suc k, inside, is) = inr (k, omega (arith, inside), is)
-
-Contains-behind : (first : ℕ) (rest : List ℕ) (x : ℕ) → Contains rest x → Contains (first ∷ rest) x
-Contains-behind first rest x has = (suc has.0, omega (arith, has.1), has.2)
+use Rattle.kv_model.proofs.ContainsLemmas.{Contains-cons, Contains-behind}
 
 above-first : (first : ℕ) (rest : List ℕ) (x : ℕ) → AllByRecursion (λ next. first < next) rest
     → Contains rest x → first < x

@@ -10,3 +10,6 @@ pub mod AnswersLemmas
 pub mod AgreementLemmas
 pub mod WholeLemmas
 pub mod ToldLemmas
+pub mod ContainsLemmas
+pub mod KeyLemmas
+pub mod LookupLemmas

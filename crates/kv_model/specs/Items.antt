@@ -1,6 +1,6 @@
 -- The items that a history has at a stamp, and what a batch finds there.
 use Rattle.std.specs.Prelude.{◌≡◌, ℕ, ◌-◌, ◌==◌, List, [], ◌∷◌, length, filter, count_by, Contains}
-use Rattle.std.specs.Prelude.{Option, None, Some, Bool, IsTrue, ◌↔◌, ⊤, option_and_then}
+use Rattle.std.specs.Prelude.{Option, None, Some, Bool, IsTrue, ◌↔◌, ◌&&◌, ◌||◌, ⊤, option_and_then}
 use Rattle.std.specs.Ordering.{nat_cmp, is_le, is_lt}
 use Rattle.std.specs.Cmp.Lexicographic.{slice_cmp}
 use Rattle.kv_base.specs.Partition.{owner_of}
@@ -18,21 +18,16 @@ KeyValue = List ℕ × List ℕ
 abbrev pub IsLess : List ℕ → List ℕ → Type 0
 IsLess key other = IsTrue (is_lt (slice_cmp nat_cmp key other))
 
--- the key is below the end of a range; an empty end is none
-abbrev pub IsBelowEnd : List ℕ → List ℕ → Type 0
-IsBelowEnd [] key = ⊤
-IsBelowEnd (first ∷ rest) key = IsLess key (first ∷ rest)
-
--- the key lies at or after `low` and below `high`
-pub record IsInRange (low high key : List ℕ) : Type 0 where
-  pub from : IsTrue (is_le (slice_cmp nat_cmp low key))
-  pub below : IsBelowEnd high key
+-- the key is at or after `low` and below `high`; an empty `high` is no end
+abbrev pub is_in_range : List ℕ → List ℕ → List ℕ → Bool
+is_in_range low high key = is_le (slice_cmp nat_cmp low key)
+    && (length high == 0 || is_lt (slice_cmp nat_cmp key high))
 
 -- by rising key, the items that the history has in the range at the stamp
 pub record AreItems (history : List Write) (stamp : ℕ) (low high : List ℕ)
     (items : List KeyValue) : Type 0 where
   pub rising : Pairwise (λ item next. IsLess item.0 next.0) items
-  pub each : (item : KeyValue) → Contains items item ↔ (IsInRange low high item.0
+  pub each : (item : KeyValue) → Contains items item ↔ (IsTrue (is_in_range low high item.0)
       × (value_at history stamp item.0 ≡ Some item.1))
 
 -- the items whose keys this worker of so many owns

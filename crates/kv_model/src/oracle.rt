@@ -1,7 +1,10 @@
-ghost use Rattle.std.specs.Prelude.{◌≡◌, [], ◌∷◌, ◌++◌, OnOk, OnErr};
+ghost use Rattle.std.specs.Prelude.{◌≡◌, [], ◌∷◌, ◌++◌, OnOk, OnErr, IfOk};
 ghost use Rattle.std.specs.Option.{option_copied};
 
+use crate::item::ItemList;
 use crate::latest::{find_latest, value_of};
+use crate::lookup::Asked;
+use crate::range::items_at;
 use crate::write::Recorded;
 use kv_base::{Bytes, NoMemory};
 use std::alloc::Global;
@@ -28,6 +31,8 @@ impl Model for Oracle {
 
 impl Oracle {
     ghost use Rattle.kv_model.specs.History.{value_at};
+    ghost use Rattle.kv_model.specs.Items.{AreItems};
+    ghost use Rattle.kv_model.specs.Oracle.{items_of};
 
     /// No write so far.
     pub fn new(alloc: Global) -> Oracle
@@ -64,5 +69,13 @@ impl Oracle {
         ensures { option_copied result ≡ value_at self.now stamp key.now }
     {
         value_of(find_latest(&self.writes, stamp, key))
+    }
+    /// The items of the keys at or after `low` and below `high` at the stamp, by rising key; an
+    /// empty `high` is no end. The one error is want of memory.
+    pub fn items_at(&self, stamp: u64, low: &[u8], high: &[u8]) -> Result<ItemList, NoMemory>
+        ensures { IfOk result (λ list. AreItems self.now stamp low.now high.now
+            (items_of list.items)) }
+    {
+        items_at(self.alloc, &self.writes, Asked { stamp, low, high })
     }
 }

@@ -9,6 +9,7 @@ pub mod Transcript
 pub mod Padding
 pub mod Slots
 pub mod SlotBytes
+pub mod Fold
 pub mod Head
 pub mod Reading
 pub mod Recovery

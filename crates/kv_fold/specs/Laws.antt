@@ -1,0 +1,30 @@
+-- Laws of folds: any order gives one state, an answer is the fold of the plain list, sums of what a
+-- store can hold don't wrap, and the first items are the longest prefix.
+use Rattle.std.specs.Prelude.{◌≡◌, ℕ, ◌+◌, ◌^◌, ◌<◌, ◌≤◌, List, ◌∷◌, ◌++◌, length}
+use Rattle.std.specs.List.{sum_by}
+use Rattle.std.specs.FinMap.{entries}
+use Rattle.kv_model.specs.Fold.{KeyValue, FoldKind, total_of, item_size, longest_prefix}
+use Rattle.kv_fold.specs.Bags.{Bag, IsGood}
+use Rattle.kv_fold.specs.States.{State, answer_of, IsResult}
+
+-- what a state answers is the fold of the plain list of any bag that it stands for
+abbrev pub AnswersAreResults : Type 0
+AnswersAreResults = (state : State) → IsResult state (answer_of state)
+
+-- no sum over a good bag wraps
+abbrev pub TotalsFit : Type 0
+TotalsFit = (kind : FoldKind) (bag : Bag) → IsGood bag → total_of kind (entries bag) < 2 ^ 64
+
+-- these are the longest prefix of the items that is of at most so many and has at most so many bytes
+pub record IsLongest (most room : ℕ) (items front : List KeyValue) : Type 0 where
+  pub tail : List KeyValue
+  pub parts : items ≡ front ++ tail
+  pub few : length front ≤ most
+  pub small : sum_by item_size front ≤ room
+  pub longest : (item : KeyValue) (later : List KeyValue) → items ≡ front ++ item ∷ later
+      → length front + 1 ≤ most → sum_by item_size front + item_size item ≤ room → ⊥
+
+-- the prefix that is taken is the longest one that fits
+abbrev pub TakesLongest : Type 0
+TakesLongest = (most room : ℕ) (items : List KeyValue)
+    → IsLongest most room items (longest_prefix most room items)

@@ -1,0 +1,16 @@
+ghost use Rattle.kv_fold.specs.Laws.{AnswersAreResults, TotalsFit, TakesLongest};
+
+/// What a state answers is the fold of the plain list of any bag that it stands for.
+pub fn answers_are_results()
+    ensures { AnswersAreResults }
+{}
+
+/// No sum over fewer than 2^32 items of the sizes that a store takes reaches 2^64.
+pub fn totals_fit()
+    ensures { TotalsFit }
+{}
+
+/// The prefix that the fold of the first items takes is the longest that fits.
+pub fn takes_longest()
+    ensures { TakesLongest }
+{}

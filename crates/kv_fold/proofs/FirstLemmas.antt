@@ -1,9 +1,8 @@
 -- What a fold of the first items does to its state.
-use Rattle.std.proofs.Common.{◌≡◌, ℕ, ◌+◌, ◌%◌, ◌^◌, ◌≤◌, T, Bool, true, false, cond, List, [], ◌∷◌}
-use Rattle.std.proofs.Common.{◌++◌, Option, None, Some, refl, sym, ap, ◌∙◌, subst, arith, rules}
+use Rattle.std.proofs.Common.{◌≡◌, ℕ, T, true, false, cond, List, [], ◌∷◌}
+use Rattle.std.proofs.Common.{◌++◌, Some, refl, sym, ap, ◌∙◌, subst, arith}
 use Rattle.std.proofs.Common.{is_some, take, drop, All, length-take}
 use Rattle.std.specs.List.{sum_by}
-use Rattle.std.specs.Ordering.{is_lt}
 use Rattle.std.specs.FinMap.{find, is_sorted, entries, insert}
 use Rattle.std.specs.FinMap.Entries.{put}
 use Rattle.std.proofs.lemmas.List.{take-append-drop}
@@ -24,12 +23,13 @@ pub led_state : (most : ℕ) (bag : Bag)
 unfolding state_of
 led_state most bag = refl
 
-pub first_is : (most : ℕ) (old : Prefix) (bag : Bag) → led most old ≡ state_of (TakingFirst most) bag
+pub first_is : (most : ℕ) (old : Prefix) (bag : Bag)
+    → led most old ≡ state_of (TakingFirst most) bag
     → old ≡ prefix_of most most_bytes (entries bag)
 unfolding state_of
 first_is most old bag was = ap (λ (s : State). s.first) was
 
--- a pair that is added to a fold of the first items
+-- a item that is added to a fold of the first items
 pub first_adds : (most : ℕ) (key value : List ℕ) (old new : Prefix)
     → new ≡ accept most most_bytes key value old → Adds key value (led most old) (led most new)
 first_adds most key value old new is bag was none =
@@ -48,7 +48,8 @@ first_merges most old other new is bag more all was its apart union =
     ap (led most)
     (is
     ∙ ap (λ p. close p.cut (accept_all most most_bytes p.items old)) theirs
-    ∙ ap (λ p. close (prefix_of most most_bytes (entries more)).cut (accept_all most most_bytes (prefix_of most most_bytes (entries more)).items p)) mine
+    ∙ ap (λ p. close (prefix_of most most_bytes (entries more)).cut
+    (accept_all most most_bytes (prefix_of most most_bytes (entries more)).items p)) mine
     ∙ sym (prefix_union most most_bytes bag more apart)
     ∙ ap (λ b. prefix_of most most_bytes (entries b)) (sym (union_is bag more all apart union)))
     ∙ led_state most all
@@ -64,15 +65,19 @@ pub other_most : (most more : ℕ) (old other : Prefix) (new : State) → (most 
     → Merges (led most old) (led more other) new
 unfolding most_of
 other_most most more old other new apart bag two all was its distinct union =
-    let same = ap (λ (s : State). most_of s.kind) its ∙ ap most_of (kind_of_state (TakingFirst most) two) in
+    let same = ap (λ (s : State). most_of s.kind) its
+    ∙ ap most_of (kind_of_state (TakingFirst most) two) in
     absurd (apart (sym same))
 
 pub accept_past : (most : ℕ) (key value : List ℕ) (old : Prefix) → is_past old.cut key ≡ true
     → old ≡ accept most most_bytes key value old
 accept_past most key value old past =
-    elim (is_some (find order key old.items)) as (λ b. old ≡ cond b old (take_in most most_bytes key value old)) [
+    elim (is_some (find order key old.items)) as
+    (λ b. old ≡ cond b old (take_in most most_bytes key value old)) [
       | true ↦ refl
-      | false ↦ ap (λ b. cond b old (trim most most_bytes (prefix (put order key value old.items) old.cut))) {x = true} {y = is_past old.cut key} (sym past)
+      | false ↦ ap (λ b. cond b old
+          (trim most most_bytes (prefix (put order key value old.items) old.cut))) {x = true}
+          {y = is_past old.cut key} (sym past)
     ]
 
 pub accept_all-push : (n r : ℕ) (es : List KeyValue) (e : KeyValue) (old : Prefix)
@@ -88,8 +93,9 @@ shorter_first most bytes at es h = record {
       is_yes _ (sorted_front (take at es) (drop at es)
       (subst (λ l. T (is_sorted order l)) (sym (take-append-drop at es)) (yes _ h.rising)));
   each =
-      All-front (λ (pair : KeyValue). IsItem pair.0 pair.1) (take at es) (drop at es)
-      (subst (λ l. All (λ (pair : KeyValue). IsItem pair.0 pair.1) l) (sym (take-append-drop at es)) h.each);
+      All-front (λ (item : KeyValue). IsItem item.0 item.1) (take at es) (drop at es)
+      (subst (λ l. All (λ (item : KeyValue). IsItem item.0 item.1) l)
+      (sym (take-append-drop at es)) h.each);
   counted = refl;
   few = omega (arith, h.few, length-take {A = KeyValue});
   small = omega (arith, h.small, h.counted, sum_by-take-le item_size es at);
@@ -101,7 +107,8 @@ pub close_in : (key : List ℕ) (old : Prefix) (items : List KeyValue) → is_pa
     → prefix items (Some key) ≡ close (Some key) old
 close_in key old items in_it is =
     ap (λ l. prefix l (Some key)) is
-    ∙ ap (λ b. cond b old (prefix (below key old.items) (Some key))) {x = false} {y = is_past old.cut key} (sym in_it)
+    ∙ ap (λ b. cond b old
+    (prefix (below key old.items) (Some key))) {x = false} {y = is_past old.cut key} (sym in_it)
 
 pub merges_by : (most more theirs : ℕ) (old other new mid : Prefix) → more ≡ most → most ≡ theirs
     → mid ≡ accept_all most most_bytes other.items old → new ≡ close other.cut mid

@@ -1,12 +1,11 @@
 -- Keys and their order, and lists whose keys rise.
 use Rattle.std.proofs.Common.{◌≡◌, ℕ, T, Bool, true, false, cond, List, [], ◌∷◌, ◌++◌, ◌&&◌}
-use Rattle.std.proofs.Common.{Option, None, Some, Ordering, Less, Equal, Greater, refl, sym, ap, ◌∙◌}
+use Rattle.std.proofs.Common.{None, Some, Ordering, Less, Equal, Greater, refl, sym, ap, ◌∙◌}
 use Rattle.std.proofs.Common.{subst, arith, IsTrue, All}
 use Rattle.std.proofs.lemmas.Grind.{common_steps}
-use Rattle.std.specs.Ordering.{nat_cmp, is_lt, is_eq, eq_by_cmp, ordering_reverse}
-use Rattle.std.specs.Cmp.{tied_itself}
+use Rattle.std.specs.Ordering.{is_lt, is_eq, eq_by_cmp, ordering_reverse}
 use Rattle.std.specs.FinMap.{find, is_sorted, slice_cmp-IsAntisymmetric, nat_cmp-IsAntisymmetric}
-use Rattle.std.specs.FinMap.Entries.{below_all, where_key}
+use Rattle.std.specs.FinMap.Entries.{below_all}
 use Rattle.std.proofs.lemmas.Cmp.{nat_list_cmp_total as total}
 use Rattle.kv_model.specs.Fold.{KeyValue}
 use Rattle.kv_fold.specs.Bags.{order}
@@ -66,13 +65,14 @@ below_less x y (e ∷ es) p h =
     both _ _ (subst (λ r. T (is_lt r)) (sym (total.trans x y e.0 p (less _ (first _ _ h)))) tt)
     (below_less x y es p (second _ _ h))
 
-pub find_below : (key : List ℕ) (es : List KeyValue) → T (below_all order key es) → find order key es ≡ None
+pub find_below : (key : List ℕ) (es : List KeyValue) → T (below_all order key es)
+    → find order key es ≡ None
 find_below key [] h = refl
 find_below key (e ∷ es) h =
     ap (λ r. cond (is_eq r) (Some e.1) (find order key es)) (less _ (first _ _ h))
     ∙ find_below key es (second _ _ h)
 
--- what is found behind the first pair is found
+-- what is found behind the first item is found
 pub later_found : (k v : List ℕ) (e : KeyValue) (es : List KeyValue) → T (is_sorted order (e ∷ es))
     → find order k es ≡ Some v → find order k (e ∷ es) ≡ Some v
 later_found k v e es s is =
@@ -90,7 +90,8 @@ pub found_in_front : (k v : List ℕ) (xs ys : List KeyValue) → find order k x
 found_in_front k v [] ys is = absurd (none_some v is)
 found_in_front k v (x ∷ xs) ys is =
     elim (eq_by_cmp order k x.0) as
-    (λ b. cond b (Some x.1) (find order k xs) ≡ Some v → cond b (Some x.1) (find order k (xs ++ ys)) ≡ Some v) [
+    (λ b. cond b (Some x.1) (find order k xs) ≡ Some v
+    → cond b (Some x.1) (find order k (xs ++ ys)) ≡ Some v) [
       | true ↦ λ at. at
       | false ↦ λ at. found_in_front k v xs ys at
     ] is
@@ -112,7 +113,8 @@ where_none key x (e ∷ es) h b =
     (not_below x e.0 key (less _ (first _ _ b)) h)
     ∙ where_none key x es h (second _ _ b)
 
-pub sorted_below : (x : List ℕ) (xs ys : List KeyValue) → T (below_all order x (xs ++ ys)) → T (below_all order x xs)
+pub sorted_below : (x : List ℕ) (xs ys : List KeyValue) → T (below_all order x (xs ++ ys))
+    → T (below_all order x xs)
 sorted_below x [] ys h = tt
 sorted_below x (e ∷ es) ys h = both _ _ (first _ _ h) (sorted_below x es ys (second _ _ h))
 
@@ -122,24 +124,28 @@ sorted_front [] ys h = tt
 sorted_front (e ∷ es) ys h =
     both _ _ (sorted_below e.0 es ys (first _ _ h)) (sorted_front es ys (second _ _ h))
 
--- pairs before another in a list whose keys rise are below it
+-- items before another in a list whose keys rise are below it
 pub below_joint : (x : List ℕ) (xs : List KeyValue) (e : KeyValue) (ys : List KeyValue)
     → T (below_all order x (xs ++ e ∷ ys)) → order x e.0 ≡ Less
 below_joint x [] e ys h = less _ (first _ _ h)
 below_joint x (y ∷ xs) e ys h = below_joint x xs e ys (second _ _ h)
 
-pub front_below : (xs : List KeyValue) (e : KeyValue) (ys : List KeyValue) → T (is_sorted order (xs ++ e ∷ ys))
+pub front_below : (xs : List KeyValue) (e : KeyValue) (ys : List KeyValue)
+    → T (is_sorted order (xs ++ e ∷ ys))
     → (k v : List ℕ) → find order k xs ≡ Some v → order k e.0 ≡ Less
 front_below [] e ys s k v is = absurd (none_some v is)
 front_below (x ∷ xs) e ys s k v is =
     elim (eq_by_cmp order k x.0) as
-    (λ b. eq_by_cmp order k x.0 ≡ b → cond b (Some x.1) (find order k xs) ≡ Some v → order k e.0 ≡ Less) [
+    (λ b. eq_by_cmp order k x.0 ≡ b → cond b (Some x.1) (find order k xs) ≡ Some v
+    → order k e.0 ≡ Less) [
       | true ↦ λ tied at.
-          ap (λ q. order q e.0) (one_key k x.0 (equal_of _ tied)) ∙ below_joint x.0 xs e ys (first _ _ s)
+          ap (λ q. order q e.0) (one_key k x.0 (equal_of _ tied))
+          ∙ below_joint x.0 xs e ys (first _ _ s)
       | false ↦ λ apart at. front_below xs e ys (second _ _ s) k v at
     ] refl is
 
-pub back_above : (xs : List KeyValue) (e : KeyValue) (ys : List KeyValue) → T (is_sorted order (xs ++ e ∷ ys))
+pub back_above : (xs : List KeyValue) (e : KeyValue) (ys : List KeyValue)
+    → T (is_sorted order (xs ++ e ∷ ys))
     → T (below_all order e.0 ys)
 back_above [] e ys s = first _ _ s
 back_above (x ∷ xs) e ys s = back_above xs e ys (second _ _ s)

@@ -1,9 +1,24 @@
 -- Where an item goes in a list whose keys rise, and the room that is made for it.
-use Rattle.std.proofs.Common.{◌≡◌, ℕ, zero, suc, ◌+◌, ◌<◌, ◌≤◌, T, Bool, true, false, cond, List, []}
-use Rattle.std.proofs.Common.{◌∷◌, ◌++◌, ◌&&◌, length, get_or, take, Option, None, Some, is_some}
+use Rattle.std.proofs.Common.{
+  ◌≡◌,
+  ℕ,
+  zero,
+  suc,
+  ◌+◌,
+  ◌<◌,
+  ◌≤◌,
+  T,
+  Bool,
+  true,
+  false,
+  cond,
+  List,
+  [],
+}
+use Rattle.std.proofs.Common.{◌∷◌, ◌++◌, length, get_or, take, Option, None, Some, is_some}
 use Rattle.std.proofs.Common.{Ordering, Less, Equal, Greater, refl, sym, ap, ◌∙◌, subst, arith}
 use Rattle.std.proofs.Common.{length-append, ◌-◌, All}
-use Rattle.std.specs.List.{insert, filter, sum_by}
+use Rattle.std.specs.List.{insert, sum_by}
 use Rattle.std.specs.Ordering.{is_lt, is_eq, ordering_reverse, ordering_index}
 use Rattle.std.specs.List.Sorted.{IsNonDecreasingBy, IsPartitionedBy, IsSearchInRange}
 use Rattle.std.specs.List.Sorted.{IsBinarySearchResult}
@@ -147,8 +162,8 @@ pub room_pop : (key value : List ℕ) (es : List KeyValue) (z : KeyValue) (i : �
 room_pop key value es z i cut most gap le large =
     let rest = put_gap key value es i (gap_pop key es z i gap le) in
     let whole = put_gap key value (es ++ z ∷ []) i gap
-        ∙ insert_before es z (key, value) i le
-        ∙ ap (λ l. l ++ z ∷ []) (sym rest) in
+    ∙ insert_before es z (key, value) i le
+    ∙ ap (λ l. l ++ z ∷ []) (sym rest) in
     let len = ap length rest ∙ insert_length es (key, value) i le in
     let bytes = ap (sum_by item_size) rest ∙ insert_sum es (key, value) i le in
     ap (λ l. trim most most_bytes (prefix l cut)) whole
@@ -190,7 +205,8 @@ below_is_take key [] (suc i) le low high = absurd (omega arith)
 below_is_take key (e ∷ es) zero le low high =
     below_is_take key es zero (omega arith) (λ k d lt. absurd (omega arith))
     (λ k d ge lt. high (suc k) d (omega arith) (omega arith))
-    ∙ sym (ap (λ b. cond b (e ∷ below key es) (below key es)) (high 0 e (omega arith) (omega arith)))
+    ∙ sym (ap (λ b. cond b (e ∷ below key es) (below key es))
+    (high 0 e (omega arith) (omega arith)))
 below_is_take key (e ∷ es) (suc i) le low high =
     ap (λ l. e ∷ l)
     (below_is_take key es i (omega arith) (λ k d lt. low (suc k) d (omega arith))
@@ -219,7 +235,8 @@ pub searched : (key : List ℕ) (es : List KeyValue) (r : Result ℕ ℕ) → T 
 searched key es (Ok i) s range h = found_at key es i range h
 searched key es (Err i) s range h =
     let parts = h (comparisons_rise key es s) in
-    gap_from key es i range (λ k d lt. parts.0 k d (omega arith) lt) (λ k d ge lt. parts.1 k d ge lt)
+    gap_from key es i range (λ k d lt. parts.0 k d (omega arith) lt)
+    (λ k d ge lt. parts.1 k d ge lt)
 
 -- a list of first items without the last
 pub first_pop : (most bytes left : ℕ) (old es : List KeyValue) (z : KeyValue)
@@ -231,7 +248,8 @@ first_pop most bytes left old es z is rest h =
     let last = sum_by-cons item_size z [] in
     record {
       rising =
-          is_yes _ (sorted_front es (z ∷ []) (subst (λ l. T (is_sorted order l)) is (yes _ h.rising)));
+          is_yes _ (sorted_front es (z ∷ [])
+          (subst (λ l. T (is_sorted order l)) is (yes _ h.rising)));
       each =
           All-front (λ (item : KeyValue). IsItem item.0 item.1) es (z ∷ [])
           (subst (λ l. All (λ (item : KeyValue). IsItem item.0 item.1) l) is h.each);
@@ -261,7 +279,8 @@ first_insert most bytes more es key value i item has sum h = record {
   rising =
       is_yes _ (subst (λ l. T (is_sorted order l)) (put_gap key value es i has.gap)
       (is_sorted-put order total key value es (yes _ h.rising)));
-  each = insert_all (λ (item : KeyValue). IsItem item.0 item.1) es (key, value) i has.bound h.each item;
+  each = insert_all (λ (item : KeyValue). IsItem item.0 item.1) es
+      (key, value) i has.bound h.each item;
   counted = omega (arith, insert_sum es (key, value) i has.bound, sum, h.counted);
   few = omega (arith, insert_length es (key, value) i has.bound, has.few);
   small = omega (arith, has.small, sum, h.counted);

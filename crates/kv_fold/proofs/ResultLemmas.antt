@@ -1,6 +1,40 @@
 -- The bytes that folds answer.
-use Rattle.std.proofs.Common.{◌≡◌, ℕ, suc, ◌+◌, ◌*◌, ◌/◌, ◌%◌, ◌^◌, ◌<◌, ◌≤◌, All, Ok, Err, sum, subst, List, [], ◌∷◌, ◌++◌, Option, None, Some, refl, sym, ap}
-use Rattle.std.proofs.Common.{◌∙◌, arith, length, length-append, get_or, take, append-nil as append_nil}
+use Rattle.std.proofs.Common.{
+  ◌≡◌,
+  ℕ,
+  suc,
+  ◌+◌,
+  ◌*◌,
+  ◌/◌,
+  ◌%◌,
+  ◌^◌,
+  ◌<◌,
+  ◌≤◌,
+  All,
+  Ok,
+  Err,
+  sum,
+  subst,
+  List,
+  [],
+  ◌∷◌,
+  ◌++◌,
+  Option,
+  None,
+  Some,
+  refl,
+  sym,
+  ap,
+}
+use Rattle.std.proofs.Common.{
+  ◌∙◌,
+  arith,
+  length,
+  length-append,
+  get_or,
+  take,
+  append-nil as append_nil,
+}
 use Rattle.std.specs.List.{sum_by, flat_map}
 use Rattle.std.specs.Int.{w16, w32, to_le_bytes}
 use Rattle.std.proofs.lemmas.List.{flat_map_more, take_more}
@@ -8,12 +42,12 @@ use Rattle.std.proofs.lemmas.List.Concat.{flat_map-cons}
 use Rattle.std.proofs.lemmas.List.Sums.{sum_by-cons, sum_by-le}
 use Rattle.kv_model.specs.Fold.{KeyValue, FoldKind, Counting, AddingLengths, AddingBytes}
 use Rattle.kv_model.specs.Fold.{TakingFirst, total_of, item_size, item_bytes, items_bytes}
-use Rattle.kv_model.specs.Fold.{longest_prefix, most_bytes, result_of}
+use Rattle.kv_model.specs.Fold.{most_bytes, result_of}
 use Rattle.std.specs.FinMap.{entries}
 use Rattle.std.proofs.Common.{Result, IfOk}
 use Rattle.std.specs.Int.{w64}
-use Rattle.kv_fold.specs.Bags.{Bag, IsStored, IsGood}
-use Rattle.kv_fold.specs.States.{Prefix, prefix_of, State, state_of, first_of, answer_by, answer_of}
+use Rattle.kv_fold.specs.Bags.{Bag}
+use Rattle.kv_fold.specs.States.{prefix_of, State, state_of, answer_by, answer_of}
 use Rattle.kv_fold.specs.States.{IsResult}
 use Rattle.kv_fold.specs.Laws.{AnswersAreResults, TotalsFit, IsLongest, TakesLongest}
 use Rattle.kv_fold.proofs.PrefixLemmas.{prefix_items, prefix_few, prefix_small, no_cut, cut_splits}
@@ -35,7 +69,8 @@ item_length item =
       le_four (length item.1),
     )
 
-pub items_length : (items : List KeyValue) → length (flat_map item_bytes items) ≡ sum_by item_size items
+pub items_length : (items : List KeyValue)
+    → length (flat_map item_bytes items) ≡ sum_by item_size items
 items_length [] = refl
 items_length (e ∷ es) =
     omega (
@@ -48,7 +83,8 @@ items_length (e ∷ es) =
     )
 
 -- the bytes of a result
-pub result_length : (items : List KeyValue) → length (items_bytes items) ≡ 2 + sum_by item_size items
+pub result_length : (items : List KeyValue)
+    → length (items_bytes items) ≡ 2 + sum_by item_size items
 result_length items =
     omega (
       arith,
@@ -57,13 +93,15 @@ result_length items =
       items_length items,
     )
 
-pub more_items : (h : List ℕ) (xs : List KeyValue) (i : ℕ) (x : KeyValue) (old new : List ℕ) → i < length xs
+pub more_items : (h : List ℕ) (xs : List KeyValue) (i : ℕ) (x : KeyValue) (old new : List ℕ)
+    → i < length xs
     → x ≡ get_or xs i x → old ≡ h ++ flat_map item_bytes (take i xs) → new ≡ old ++ item_bytes x
     → new ≡ h ++ flat_map item_bytes (take (i + 1) xs)
 more_items h xs i x old new lt is before after =
     after ∙ ap (λ l. l ++ item_bytes x) before
     ∙ flat_map_more item_bytes h (take i xs) x
-    ∙ ap (λ l. h ++ flat_map item_bytes l) (ap (λ y. take i xs ++ y ∷ []) is ∙ sym (take_more xs i x lt))
+    ∙ ap (λ l. h ++ flat_map item_bytes l) (ap (λ y. take i xs ++ y ∷ []) is
+    ∙ sym (take_more xs i x lt))
 
 -- eight bytes of a number are those of the number modulo 2^64
 pub wrapped : (n : ℕ) → to_le_bytes w64 (n % 2 ^ 64) ≡ to_le_bytes w64 n
@@ -128,45 +166,48 @@ totals AddingBytes bag good =
       good.few,
       sum_by-le (λ (item : KeyValue). sum item.1) 16677000 (entries bag)
           (λ k d lt. omega (
-        arith,
-        (good.each k d lt).sizes.small,
-        sum_le _ (good.each k d lt).bytes,
-      )),
+            arith,
+            (good.each k d lt).sizes.small,
+            sum_le _ (good.each k d lt).bytes,
+          )),
     )
 totals (TakingFirst most) bag good = omega arith
 
-same_next : (items : List KeyValue) (x y : KeyValue) (xs ys : List KeyValue) → items ++ x ∷ xs ≡ items ++ y ∷ ys
+same_next : (items : List KeyValue) (x y : KeyValue) (xs ys : List KeyValue)
+    → items ++ x ∷ xs ≡ items ++ y ∷ ys
     → x ≡ y
 same_next [] x y xs ys is = cc
-same_next (e ∷ es) x y xs ys is = let rest : es ++ x ∷ xs ≡ es ++ y ∷ ys = cc in same_next es x y xs ys rest
+same_next (e ∷ es) x y xs ys is = let rest : es ++ x ∷ xs
+    ≡ es ++ y ∷ ys = cc in same_next es x y xs ys rest
 
-longest_at : (most room : ℕ) (pairs : List KeyValue)
-    → ((o : Option (List ℕ)) → (prefix_of most room pairs).cut ≡ o
-    → IsLongest most room pairs (prefix_of most room pairs).items)
-longest_at most room pairs None is =
-    let items : List KeyValue = (prefix_of most room pairs).items in
-    let whole = no_cut pairs most room is in
+longest_at : (most room : ℕ) (list : List KeyValue)
+    → ((o : Option (List ℕ)) → (prefix_of most room list).cut ≡ o
+    → IsLongest most room list (prefix_of most room list).items)
+longest_at most room list None is =
+    let items : List KeyValue = (prefix_of most room list).items in
+    let whole = no_cut list most room is in
     record {
       tail = [];
       parts = sym whole ∙ sym (append_nil items);
-      few = omega (arith, prefix_few pairs most room, ones_length items);
-      small = prefix_small pairs most room;
+      few = omega (arith, prefix_few list most room, ones_length items);
+      small = prefix_small list most room;
       longest =
           λ pair later at few small.
           let len = ap length (whole ∙ at) ∙ length-append items (pair ∷ later) in
           absurd (omega (arith, len));
     }
-longest_at most room pairs (Some key) is =
-    let items : List KeyValue = (prefix_of most room pairs).items in
-    let split = cut_splits pairs most room key is in
+longest_at most room list (Some key) is =
+    let items : List KeyValue = (prefix_of most room list).items in
+    let split = cut_splits list most room key is in
     record {
       tail = (key, split.value) ∷ split.tail;
       parts = split.parts;
-      few = omega (arith, prefix_few pairs most room, ones_length items);
-      small = prefix_small pairs most room;
+      few = omega (arith, prefix_few list most room, ones_length items);
+      small = prefix_small list most room;
       longest =
           λ pair later at few small.
-          let next = same_next items pair (key, split.value) later split.tail (sym at ∙ split.parts) in
+          let next = same_next items pair (key, split.value) later split.tail (sym at
+          ∙ split.parts) in
           let same = ap item_size next in
           split.large (omega (arith, ones_length items)) (omega (arith, same));
     }

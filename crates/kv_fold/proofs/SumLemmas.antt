@@ -1,9 +1,9 @@
 -- Folds that keep a number or a sum.
-use Rattle.std.proofs.Common.{◌≡◌, ℕ, ◌+◌, ◌*◌, ◌%◌, ◌^◌, ◌<◌, ◌≤◌, List, [], ◌∷◌, length, sum}
-use Rattle.std.proofs.Common.{refl, sym, ap, ◌∙◌, arith, All}
+use Rattle.std.proofs.Common.{◌≡◌, ℕ, ◌+◌, ◌%◌, ◌^◌, List, [], ◌∷◌, length, sum}
+use Rattle.std.proofs.Common.{refl, sym, ap, ◌∙◌, arith}
 use Rattle.std.specs.List.{sum_by}
 use Rattle.std.specs.FinMap.{entries, insert, empty, len-empty, len-entries}
-use Rattle.std.proofs.lemmas.List.Sums.{sum_by-cons, sum_by-le}
+use Rattle.std.proofs.lemmas.List.Sums.{sum_by-cons}
 use Rattle.kv_model.specs.Fold.{KeyValue, FoldKind, Counting, AddingLengths, AddingBytes}
 use Rattle.kv_model.specs.Fold.{TakingFirst, total_of}
 use Rattle.kv_fold.specs.Bags.{Bag, order}
@@ -39,7 +39,12 @@ summed_state : (kind : FoldKind) (total : ℕ) (bag : Bag)
 unfolding state_of
 summed_state kind total bag plain is =
     ap (summed kind) (is ∙ ap (λ n. n % 2 ^ 64) (sym (total_is kind (entries bag))))
-    ∙ ap (λ first. record { kind = kind; total = total_of kind (entries bag) % 2 ^ 64; first = first })
+    ∙ ap (λ first. record {
+      kind = kind;
+      total = total_of kind
+          (entries bag) % 2 ^ 64;
+      first = first;
+    })
     (sym (plain (entries bag)))
 
 -- the sum that a state keeps
@@ -68,7 +73,8 @@ empty_state kind =
     let none : entries (empty {X = List ℕ} {R = order}) ≡ [] =
     no_items _ (sym (len-entries (empty {X = List ℕ} {R = order})) ∙ len-empty order (List ℕ)) in
     sym (of_no_items kind)
-    ∙ ap (λ (es : List KeyValue). record { kind = kind; total = total_of kind es % 2 ^ 64; first = first_of kind es })
+    ∙ ap (λ (es : List KeyValue). record
+    { kind = kind; total = total_of kind es % 2 ^ 64; first = first_of kind es })
     (sym none)
 
 -- a sum takes one more item in

@@ -15,7 +15,8 @@ AnswersAreResults = (state : State) → IsResult state (answer_of state)
 abbrev pub TotalsFit : Type 0
 TotalsFit = (kind : FoldKind) (bag : Bag) → IsGood bag → total_of kind (entries bag) < 2 ^ 64
 
--- these are the longest prefix of the items that is of at most so many and has at most so many bytes
+-- these are the longest prefix of the items that is of at most so many and has at most so many
+-- bytes
 pub record IsLongest (most room : ℕ) (items front : List KeyValue) : Type 0 where
   pub tail : List KeyValue
   pub parts : items ≡ front ++ tail

@@ -37,7 +37,8 @@ KeepsGap place old new = (key : List ℕ) → IsGap key old place → IsGap key 
 -- room was made for any item of this size that goes to this place, as far as it fits
 abbrev pub MakesRoom : ℕ → ℕ → ℕ → Prefix → Prefix → Bool → Type 0
 MakesRoom most place size old new fits = (key value : List ℕ) → item_size (key, value) ≡ size
-    → IsGap key old.items place → trim most most_bytes (prefix (put order key value old.items) old.cut)
+    → IsGap key old.items place
+    → trim most most_bytes (prefix (put order key value old.items) old.cut)
     ≡ placed fits place key value new
 
 -- an item of this key and size can be inserted at this place

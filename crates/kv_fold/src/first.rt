@@ -1,4 +1,4 @@
-ghost use Rattle.std.specs.Prelude.{◌≡◌, ◌+◌, ◌≤◌, length, insert, IfOk, IfSome, IsNone, OnOk, All, Some, true};
+ghost use Rattle.std.specs.Prelude.{◌≡◌, ◌≤◌, IfOk, IfSome, IsNone, OnOk, All, Some, true};
 ghost use Rattle.std.specs.FinMap.{empty};
 ghost use Rattle.kv_model.specs.Fold.{TakingFirst, item_size, most_bytes};
 ghost use Rattle.kv_fold.specs.Bags.{IsItem};
@@ -14,8 +14,8 @@ use std::alloc::Global;
 use std::marker::Model;
 
 /// The first items by rising key: as many as the fold is to take, and at most 60,000 bytes of them,
-/// of which an item has 5 and those of its key and its value. Contracts see the items, and the least
-/// key that no longer fitted.
+/// where an item has 5 bytes, those of its key and those of its value. An item that doesn't fit any
+/// more is never copied. Contracts see the items, and the least key that no longer fitted.
 #[derive(Debug, Drop)]
 pub struct First {
     alloc: Global,
@@ -71,10 +71,10 @@ impl First {
     fn make_place(&mut self, key: &[u8], size: usize) -> Result<Option<usize>, NoMemory>
         requires { size ≤ 65405 }
         ensures most { self.new.most ≡ self.old.most }
-        ensures place { IfOk result (λ place. IfSome place (λ at. IsPlace self.old.most at size key.now
-            self.old.first self.new.first)) }
-        ensures none { IfOk result (λ place. IsNone place → IsLeftOut self.old.most size key.now
-            self.old.first self.new.first) }
+        ensures place { IfOk result (λ place. IfSome place (λ at. IsPlace self.old.most at size
+            key.now self.old.first self.new.first)) }
+        ensures none { IfOk result (λ place. IsNone place → IsLeftOut self.old.most size
+            key.now self.old.first self.new.first) }
     {
         if self.is_past(key) {
             return Ok(None);

@@ -5,8 +5,8 @@ ghost use Rattle.kv_fold.specs.States.{State, Adds, Merges, takes_memory, answer
 use kv_base::{Bytes, NoMemory};
 use std::alloc::Global;
 
-/// A fold over items, which come one by one in any order or as the folds of shares. Where it began
-/// empty, no key came twice and no call failed, its state is that of the bag of all items that came.
+/// A fold over items, which come one by one in any order, or as the folds of shares. Where it began
+/// empty, no key came twice and no call failed, its state is that of the bag of all that came.
 pub trait Fold: Drop {
     /// What it keeps.
     ghost state: { Self → State };

@@ -8,8 +8,9 @@ mod fold;
 mod items;
 mod laws;
 mod merging;
-
 mod sums;
+#[cfg(test)]
+mod tests;
 
 pub use any::AnyFold;
 pub use first::First;

@@ -13,5 +13,6 @@ returns-clause-below c =
     IsPartitionPoint-from_clause (λ item. is_lt (order item.0 c.args.key.now)) c.args.items.now _
     facts.partitioned (below_first c.args.key.now c.args.items.now (yes _ c.requires))
     (λ a r g called. search rules) in
-    below_is_take c.args.key.now c.args.items.now _ facts.bound (λ k d lt. parts.0 k d (omega arith) lt)
+    below_is_take c.args.key.now c.args.items.now _ facts.bound
+    (λ k d lt. parts.0 k d (omega arith) lt)
     (λ k d ge lt. parts.1 k d ge lt)

@@ -1,4 +1,3 @@
-use Rattle.std.proofs.Common.{subst, sym, ap, ◌∙◌}
 use Rattle.kv_fold.proofs.FirstLemmas.{shorter_first}
 use Rattle.kv_fold.proofs.items.drop_from.Goals as goal
 

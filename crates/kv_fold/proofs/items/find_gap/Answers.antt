@@ -11,4 +11,6 @@ returns c =
     let by_key =
     facts.position (λ item. order item.0 c.args.key.now)
     (always_returns_same _ _ _ (λ a r g called. search rules)) in
-    rw c.err.ensures.value (searched c.args.key.now c.args.items.now c.binary_search_by-searched.result (yes _ c.requires) facts.bound by_key)
+    rw c.err.ensures.value
+    (searched c.args.key.now c.args.items.now c.binary_search_by-searched.result
+    (yes _ c.requires) facts.bound by_key)

@@ -4,4 +4,9 @@ use Rattle.kv_fold.proofs.KindLemmas.{not_count}
 use Rattle.kv_fold.proofs.merging.merge_count.Goals as goal
 
 pub returns-in_default : goal.returns-in_default
-returns-in_default c = record { sure = refl; kept = λ _. refl; ok = other_kind _ _ _ (not_count c.args.other c.in_default.not-Count) }
+returns-in_default c = record {
+  sure = refl;
+  kept = λ _. refl;
+  ok = other_kind _ _ _
+      (not_count c.args.other c.in_default.not-Count);
+}

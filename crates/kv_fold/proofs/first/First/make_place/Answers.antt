@@ -1,5 +1,5 @@
-use Rattle.std.proofs.Common.{◌≡◌, refl, sym, ap, ◌∙◌, arith, subst, true, false, Some}
-use Rattle.kv_model.specs.Fold.{item_size, most_bytes}
+use Rattle.std.proofs.Common.{sym, ap, ◌∙◌, arith, subst, Some}
+use Rattle.kv_model.specs.Fold.{most_bytes}
 use Rattle.kv_fold.specs.Firsts.{Leader}
 use Rattle.kv_fold.specs.States.{prefix}
 use Rattle.kv_fold.specs.Prefixes.{is_past, accept}
@@ -37,7 +37,8 @@ returns-then-fits-clause-place c =
       };
       taken =
           λ value is.
-          ap (λ b. placed b c.in-Some.place c.args.key.now value (prefix c.make_room-fits.new.items.items c.make_room-fits.new.cut))
+          ap (λ b. placed b c.in-Some.place c.args.key.now value
+          (prefix c.make_room-fits.new.items.items c.make_room-fits.new.cut))
           (sym c.if-fits.true)
           ∙ made value is;
     })
@@ -55,7 +56,8 @@ returns-clause-none c none value is =
     (prefix c.make_room-fits.new.items.items c.make_room-fits.new.cut) c.make_room-fits.result
     (yes _ c.self.invariant.rising) within gap room.value value is in
     ap (λ k. prefix c.make_room-fits.new.items.items (Some k)) c.in_ok-copy.ensures.ok
-    ∙ ap (λ b. placed b c.in-Some.place c.args.key.now value (prefix c.make_room-fits.new.items.items c.make_room-fits.new.cut))
+    ∙ ap (λ b. placed b c.in-Some.place c.args.key.now value
+    (prefix c.make_room-fits.new.items.items c.make_room-fits.new.cut))
     (sym c.if-fits.false)
     ∙ made
     ∙ ap (λ (l : Leader). accept l.most most_bytes c.args.key.now value l.first) c.self.view_is

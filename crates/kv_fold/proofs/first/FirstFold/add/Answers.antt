@@ -10,6 +10,9 @@ returns-in_default-clause-ok c =
 pub returns-clause-ok : goal.returns-clause-ok
 returns-clause-ok c =
     let place = rw c.in-Some.is at c.in_ok-place.ensures.place in
-    let inserted = rw (c.in_ok-key.ensures.ok, c.in_ok-value.ensures.ok) at c.in_ok-insert.ensures.ok in
+    let inserted = rw (
+      c.in_ok-key.ensures.ok,
+      c.in_ok-value.ensures.ok,
+    ) at c.in_ok-insert.ensures.ok in
     adds_by _ _ _ _ _ _ (c.insert.ensures.most ∙ c.make_place.ensures.most)
     (inserted ∙ place.taken c.args.value.now refl)

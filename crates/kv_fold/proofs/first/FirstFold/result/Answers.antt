@@ -1,4 +1,4 @@
-use Rattle.std.proofs.Common.{refl, sym, ap, ◌∙◌, length, ℕ, List, arith, ◌≡◌}
+use Rattle.std.proofs.Common.{ap, ◌∙◌, length, arith, ◌≡◌}
 use Rattle.kv_model.specs.Fold.{items_bytes}
 use Rattle.kv_fold.specs.States.{led}
 use Rattle.kv_fold.specs.Firsts.{Leader}
@@ -15,5 +15,12 @@ pub returns-clause-limit : goal.returns-clause-limit
 returns-clause-limit c =
     let written : c.from_vec.result ≡ items_bytes c.self.inside.items.items =
     c.from_vec.ensures ∙ c.in_ok-bytes.ensures ∙ ap items_bytes c.deref.ensures.value in
-    let long : length c.from_vec.result ≡ length (items_bytes c.self.inside.items.items) = ap length written in
-    omega (arith, long, result_length c.self.inside.items.items, c.self.invariant.counted, c.self.invariant.small)
+    let long : length c.from_vec.result
+    ≡ length (items_bytes c.self.inside.items.items) = ap length written in
+    omega (
+      arith,
+      long,
+      result_length c.self.inside.items.items,
+      c.self.invariant.counted,
+      c.self.invariant.small,
+    )

@@ -4,4 +4,5 @@ use Rattle.kv_fold.proofs.SumLemmas.{sum_adds}
 use Rattle.kv_fold.proofs.sums.ByteSumFold.add.Goals as goal
 
 pub returns-clause-ok : goal.returns-clause-ok
-returns-clause-ok c = rw (c.self.view_is, c.sum_bytes.ensures) (sum_adds AddingBytes _ _ _ (λ es. refl))
+returns-clause-ok c = rw (c.self.view_is, c.sum_bytes.ensures)
+    (sum_adds AddingBytes _ _ _ (λ es. refl))

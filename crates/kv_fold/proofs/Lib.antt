@@ -7,3 +7,4 @@ pub mod SumLemmas
 pub mod FirstLemmas
 pub mod PlaceLemmas
 pub mod ResultLemmas
+pub mod ListLemmas

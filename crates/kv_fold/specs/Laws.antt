@@ -1,11 +1,24 @@
 -- Laws of folds: any order gives one state, an answer is the fold of the plain list, sums of what a
 -- store can hold don't wrap, and the first items are the longest prefix.
-use Rattle.std.specs.Prelude.{◌≡◌, ℕ, ◌+◌, ◌^◌, ◌<◌, ◌≤◌, List, ◌∷◌, ◌++◌, length}
+use Rattle.std.specs.Prelude.{◌≡◌, ℕ, ◌+◌, ◌^◌, ◌<◌, ◌≤◌, ◌↔◌, List, [], ◌∷◌, ◌++◌, length, ⊤}
+use Rattle.std.specs.Prelude.{Contains, None}
 use Rattle.std.specs.List.{sum_by}
-use Rattle.std.specs.FinMap.{entries}
+use Rattle.std.specs.FinMap.{entries, find, from_entries}
 use Rattle.kv_model.specs.Fold.{KeyValue, FoldKind, total_of, item_size, longest_prefix}
-use Rattle.kv_fold.specs.Bags.{Bag, IsGood}
-use Rattle.kv_fold.specs.States.{State, answer_of, IsResult}
+use Rattle.kv_fold.specs.Bags.{Bag, order, IsGood}
+use Rattle.kv_fold.specs.States.{State, state_of, answer_of, IsResult}
+
+-- each key stands once
+abbrev pub HasDistinctKeys : List KeyValue → Type 0
+HasDistinctKeys [] = ⊤
+HasDistinctKeys (item ∷ items) = (find order item.0 items ≡ None) × HasDistinctKeys items
+
+-- lists of the same items with distinct keys are one bag, in which order ever their items are added,
+-- and so have one state
+abbrev pub OrderIsFree : Type 0
+OrderIsFree = (kind : FoldKind) (items more : List KeyValue) → HasDistinctKeys items
+    → HasDistinctKeys more → ((item : KeyValue) → Contains items item ↔ Contains more item)
+    → state_of kind (from_entries items) ≡ state_of kind (from_entries more)
 
 -- what a state answers is the fold of the plain list of any bag that it stands for
 abbrev pub AnswersAreResults : Type 0

@@ -1,4 +1,9 @@
-ghost use Rattle.kv_fold.specs.Laws.{AnswersAreResults, TotalsFit, TakesLongest};
+ghost use Rattle.kv_fold.specs.Laws.{OrderIsFree, AnswersAreResults, TotalsFit, TakesLongest};
+
+/// Lists of the same items with distinct keys have one state, whatever their order.
+pub fn order_is_free()
+    ensures { OrderIsFree }
+{}
 
 /// What a state answers is the fold of the plain list of any bag that it stands for.
 pub fn answers_are_results()

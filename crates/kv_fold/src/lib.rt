@@ -15,5 +15,5 @@ mod tests;
 pub use any::AnyFold;
 pub use first::First;
 pub use fold::Fold;
-pub use laws::{answers_are_results, takes_longest, totals_fit};
+pub use laws::{answers_are_results, order_is_free, takes_longest, totals_fit};
 pub use sums::{ByteSum, CountItems, ValueLengths};

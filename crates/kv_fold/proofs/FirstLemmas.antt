@@ -10,7 +10,8 @@ use Rattle.std.proofs.lemmas.List.Sums.{sum_by-take-le}
 use Rattle.kv_model.specs.Fold.{KeyValue, FoldKind, Counting, AddingLengths, AddingBytes}
 use Rattle.kv_model.specs.Fold.{TakingFirst, item_size, most_bytes}
 use Rattle.kv_fold.specs.Bags.{Bag, order, IsItem}
-use Rattle.kv_fold.specs.States.{State, Prefix, prefix, prefix_of, state_of, led, Adds, Merges}
+use Rattle.kv_fold.specs.States.{State, Prefix, prefix, prefix_of, state_of, first_state, Adds}
+use Rattle.kv_fold.specs.States.{Merges}
 use Rattle.kv_fold.specs.Prefixes.{below, trim, is_past, take_in, accept, accept_all, close}
 use Rattle.kv_fold.specs.Firsts.{AreFirst}
 use Rattle.kv_fold.proofs.OrderLemmas.{yes, is_yes, sorted_front, All-front}
@@ -18,41 +19,42 @@ use Rattle.kv_fold.proofs.BagLemmas.{union_is}
 use Rattle.kv_fold.proofs.KindLemmas.{kind_of_state}
 use Rattle.kv_fold.proofs.UnionLemmas.{prefix_insert, prefix_union}
 
-pub led_state : (most : ℕ) (bag : Bag)
-    → led most (prefix_of most most_bytes (entries bag)) ≡ state_of (TakingFirst most) bag
+pub first_state_of : (most : ℕ) (bag : Bag)
+    → first_state most (prefix_of most most_bytes (entries bag)) ≡ state_of (TakingFirst most) bag
 unfolding state_of
-led_state most bag = refl
+first_state_of most bag = refl
 
 pub first_is : (most : ℕ) (old : Prefix) (bag : Bag)
-    → led most old ≡ state_of (TakingFirst most) bag
+    → first_state most old ≡ state_of (TakingFirst most) bag
     → old ≡ prefix_of most most_bytes (entries bag)
 unfolding state_of
 first_is most old bag was = ap (λ (s : State). s.first) was
 
 -- a item that is added to a fold of the first items
 pub first_adds : (most : ℕ) (key value : List ℕ) (old new : Prefix)
-    → new ≡ accept most most_bytes key value old → Adds key value (led most old) (led most new)
+    → new ≡ accept most most_bytes key value old
+    → Adds key value (first_state most old) (first_state most new)
 first_adds most key value old new is bag was none =
-    ap (led most)
+    ap (first_state most)
     (is ∙ ap (accept most most_bytes key value) (first_is most old bag was)
     ∙ sym (prefix_insert most most_bytes bag key value none))
-    ∙ led_state most (insert bag key value)
+    ∙ first_state_of most (insert bag key value)
 
 -- a fold of the first items that takes in another
 pub first_merges : (most : ℕ) (old other new : Prefix)
     → new ≡ close other.cut (accept_all most most_bytes other.items old)
-    → Merges (led most old) (led most other) (led most new)
+    → Merges (first_state most old) (first_state most other) (first_state most new)
 first_merges most old other new is bag more all was its apart union =
     let mine = first_is most old bag was in
     let theirs = first_is most other more its in
-    ap (led most)
+    ap (first_state most)
     (is
     ∙ ap (λ p. close p.cut (accept_all most most_bytes p.items old)) theirs
     ∙ ap (λ p. close (prefix_of most most_bytes (entries more)).cut
     (accept_all most most_bytes (prefix_of most most_bytes (entries more)).items p)) mine
     ∙ sym (prefix_union most most_bytes bag more apart)
     ∙ ap (λ b. prefix_of most most_bytes (entries b)) (sym (union_is bag more all apart union)))
-    ∙ led_state most all
+    ∙ first_state_of most all
 
 pub most_of : FoldKind → ℕ
 most_of Counting = 0
@@ -62,7 +64,7 @@ most_of (TakingFirst most) = most
 
 -- folds of other numbers of items are not merged
 pub other_most : (most more : ℕ) (old other : Prefix) (new : State) → (most ≡ more → ⊥)
-    → Merges (led most old) (led more other) new
+    → Merges (first_state most old) (first_state more other) new
 unfolding most_of
 other_most most more old other new apart bag two all was its distinct union =
     let same = ap (λ (s : State). most_of s.kind) its
@@ -112,11 +114,12 @@ close_in key old items in_it is =
 
 pub merges_by : (most more theirs : ℕ) (old other new mid : Prefix) → more ≡ most → most ≡ theirs
     → mid ≡ accept_all most most_bytes other.items old → new ≡ close other.cut mid
-    → Merges (led most old) (led theirs other) (led more new)
+    → Merges (first_state most old) (first_state theirs other) (first_state more new)
 merges_by most more theirs old other new mid e p at is =
     rw (e, ← p) (first_merges most old other new (is ∙ ap (close other.cut) at))
 
 -- the same where the most items are named twice
 pub adds_by : (most more : ℕ) (key value : List ℕ) (old new : Prefix) → more ≡ most
-    → new ≡ accept most most_bytes key value old → Adds key value (led most old) (led more new)
+    → new ≡ accept most most_bytes key value old
+    → Adds key value (first_state most old) (first_state more new)
 adds_by most more key value old new same is = rw same (first_adds most key value old new is)

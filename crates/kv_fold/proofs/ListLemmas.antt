@@ -1,13 +1,13 @@
 -- Lists of the same items with distinct keys are one bag.
-use Rattle.std.proofs.Common.{◌≡◌, ℕ, zero, suc, ◌+◌, ◌<◌, Bool, true, false, cond, List, [], ◌∷◌}
-use Rattle.std.proofs.Common.{length, get_or, Option, None, Some, refl, sym, ap, ◌∙◌, subst, arith}
+use Rattle.std.proofs.Common.{◌≡◌, ℕ, zero, suc, ◌<◌, true, false, cond, List, [], ◌∷◌}
+use Rattle.std.proofs.Common.{length, get_or, None, Some, refl, sym, ap, ◌∙◌, arith}
 use Rattle.std.specs.Prelude.{Contains, ◌↔◌}
 use Rattle.std.specs.Ordering.{is_eq, eq_by_cmp}
 use Rattle.std.specs.Cmp.{tied_itself}
 use Rattle.std.specs.FinMap.{find, from_entries, get-from_entries, same_map}
 use Rattle.std.proofs.lemmas.Cmp.{nat_list_cmp_total as total}
 use Rattle.kv_model.specs.Fold.{KeyValue}
-use Rattle.kv_fold.specs.Bags.{Bag, order}
+use Rattle.kv_fold.specs.Bags.{order}
 use Rattle.kv_fold.specs.States.{state_of}
 use Rattle.kv_fold.specs.Laws.{HasDistinctKeys, OrderIsFree}
 use Rattle.kv_fold.proofs.OrderLemmas.{one_key, none_some, equal_of}
@@ -28,7 +28,7 @@ find_index (e ∷ es) (suc i) item distinct lt is =
     let rest = find_index es i item distinct.1 (omega arith) is in
     elim (eq_by_cmp order item.0 e.0) as
     (λ b. eq_by_cmp order item.0 e.0 ≡ b
-        → cond b (Some e.1) (find order item.0 es) ≡ Some item.1) [
+    → cond b (Some e.1) (find order item.0 es) ≡ Some item.1) [
       | true ↦ λ tied.
           let same = one_key item.0 e.0 (equal_of _ tied) in
           absurd (none_some item.1 (sym distinct.0 ∙ ap (λ k. find order k es) (sym same) ∙ rest))
@@ -42,7 +42,7 @@ found_index [] key value is = absurd (none_some value is)
 found_index (e ∷ es) key value is =
     elim (eq_by_cmp order key e.0) as
     (λ b. eq_by_cmp order key e.0 ≡ b → cond b (Some e.1) (find order key es) ≡ Some value
-        → Contains (e ∷ es) (key, value)) [
+    → Contains (e ∷ es) (key, value)) [
       | true ↦ λ tied at.
           let own = ap (λ k. (k, e.1)) (sym (one_key key e.0 (equal_of _ tied))) in
           (0, omega arith, own ∙ ap (λ v. (key, v)) (same_Some e.1 value at))

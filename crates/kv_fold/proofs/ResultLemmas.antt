@@ -47,9 +47,9 @@ use Rattle.std.specs.FinMap.{entries}
 use Rattle.std.proofs.Common.{Result, IfOk}
 use Rattle.std.specs.Int.{w64}
 use Rattle.kv_fold.specs.Bags.{Bag}
-use Rattle.kv_fold.specs.States.{prefix_of, State, state_of, answer_by, answer_of}
+use Rattle.kv_fold.specs.States.{prefix_of, State, state_of, state_result_by, state_result}
 use Rattle.kv_fold.specs.States.{IsResult}
-use Rattle.kv_fold.specs.Laws.{AnswersAreResults, TotalsFit, IsLongest, TakesLongest}
+use Rattle.kv_fold.specs.Laws.{ResultsAreFolds, TotalsFit, IsLongest, TakesLongest}
 use Rattle.kv_fold.proofs.PrefixLemmas.{prefix_items, prefix_few, prefix_small, no_cut, cut_splits}
 use Rattle.kv_fold.proofs.SumLemmas.{ones_length}
 
@@ -116,29 +116,29 @@ wrapped n =
     let b7 : n % 2 ^ 64 / 256 ^ 7 % 256 ≡ n / 256 ^ 7 % 256 = omega arith in
     cc (b0, b1, b2, b3, b4, b5, b6, b7)
 
-sum_answer : (kind : FoldKind) (state : State) (bag : Bag) → state ≡ state_of kind bag
+sum_result : (kind : FoldKind) (state : State) (bag : Bag) → state ≡ state_of kind bag
     → to_le_bytes w64 state.total ≡ to_le_bytes w64 (total_of kind (entries bag))
 unfolding state_of
-sum_answer kind state bag is =
+sum_result kind state bag is =
     ap (λ (s : State). to_le_bytes w64 s.total) is ∙ wrapped (total_of kind (entries bag))
 
-answer_is : (kind : FoldKind) (state : State) (bag : Bag) → state ≡ state_of kind bag
-    → answer_by kind state ≡ result_of kind (entries bag)
+result_is : (kind : FoldKind) (state : State) (bag : Bag) → state ≡ state_of kind bag
+    → state_result_by kind state ≡ result_of kind (entries bag)
 unfolding state_of
-answer_is Counting state bag is = sum_answer Counting state bag is
-answer_is AddingLengths state bag is = sum_answer AddingLengths state bag is
-answer_is AddingBytes state bag is = sum_answer AddingBytes state bag is
-answer_is (TakingFirst most) state bag is =
+result_is Counting state bag is = sum_result Counting state bag is
+result_is AddingLengths state bag is = sum_result AddingLengths state bag is
+result_is AddingBytes state bag is = sum_result AddingBytes state bag is
+result_is (TakingFirst most) state bag is =
     ap (λ (s : State). items_bytes s.first.items) is
     ∙ ap items_bytes (prefix_items (entries bag) most most_bytes)
 
-pub answers : AnswersAreResults
-answers state bag is = answer_is state.kind state bag is
+pub results : ResultsAreFolds
+results state bag is = result_is state.kind state bag is
 
--- an answer that is the state's is the fold of the plain list
+-- a result that is the state's is the fold of the plain list
 pub is_result : {E : Type 0} (r : Result (List ℕ) E) (state : State)
-    → IfOk r (λ bytes. bytes ≡ answer_of state) → IfOk r (IsResult state)
-is_result (Ok bytes) state is = λ bag was. is ∙ answers state bag was
+    → IfOk r (λ bytes. bytes ≡ state_result state) → IfOk r (IsResult state)
+is_result (Ok bytes) state is = λ bag was. is ∙ results state bag was
 is_result (Err e) state is = tt
 
 sum_le : (bytes : List ℕ) → All (λ byte. byte ≤ 255) bytes → sum bytes ≤ length bytes * 255

@@ -8,13 +8,13 @@ use Rattle.kv_fold.specs.States.{Prefix}
 use Rattle.kv_fold.specs.Places.{HasRisingKeys}
 
 -- the most items, and the first that fit
-pub record Leader : Type 0 where
+pub record FirstItems : Type 0 where
   pub most : ℕ
   pub first : Prefix
 
 -- stored as its parts
-abbrev pub leader_code : Coded Leader
-leader_code =
+abbrev pub first_items_code : Coded FirstItems
+first_items_code =
     code_by (ℕ × (List KeyValue × Option (List ℕ)))
     (coded× coded_ℕ (coded× (coded_list (coded× (coded_list coded_ℕ) (coded_list coded_ℕ)))
     (coded_option (coded_list coded_ℕ))))

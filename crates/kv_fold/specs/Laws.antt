@@ -1,4 +1,4 @@
--- Laws of folds: any order gives one state, an answer is the fold of the plain list, sums of what a
+-- Laws of folds: any order gives one state, a result is the fold of the plain list, sums of what a
 -- store can hold don't wrap, and the first items are the longest prefix.
 use Rattle.std.specs.Prelude.{◌≡◌, ℕ, ◌+◌, ◌^◌, ◌<◌, ◌≤◌, ◌↔◌, List, [], ◌∷◌, ◌++◌, length, ⊤}
 use Rattle.std.specs.Prelude.{Contains, None}
@@ -6,14 +6,15 @@ use Rattle.std.specs.List.{sum_by}
 use Rattle.std.specs.FinMap.{entries, find, from_entries}
 use Rattle.kv_model.specs.Fold.{KeyValue, FoldKind, total_of, item_size, longest_prefix}
 use Rattle.kv_fold.specs.Bags.{Bag, order, IsGood}
-use Rattle.kv_fold.specs.States.{State, state_of, answer_of, IsResult}
+use Rattle.kv_fold.specs.States.{State, state_of, state_result, IsResult}
 
 -- each key stands once
 abbrev pub HasDistinctKeys : List KeyValue → Type 0
 HasDistinctKeys [] = ⊤
 HasDistinctKeys (item ∷ items) = (find order item.0 items ≡ None) × HasDistinctKeys items
 
--- lists of the same items with distinct keys are one bag, in which order ever their items are added,
+-- lists of the same items with distinct keys are one bag, in which order ever their items are
+-- added,
 -- and so have one state
 abbrev pub OrderIsFree : Type 0
 OrderIsFree = (kind : FoldKind) (items more : List KeyValue) → HasDistinctKeys items
@@ -21,8 +22,8 @@ OrderIsFree = (kind : FoldKind) (items more : List KeyValue) → HasDistinctKeys
     → state_of kind (from_entries items) ≡ state_of kind (from_entries more)
 
 -- what a state answers is the fold of the plain list of any bag that it stands for
-abbrev pub AnswersAreResults : Type 0
-AnswersAreResults = (state : State) → IsResult state (answer_of state)
+abbrev pub ResultsAreFolds : Type 0
+ResultsAreFolds = (state : State) → IsResult state (state_result state)
 
 -- no sum over a good bag wraps
 abbrev pub TotalsFit : Type 0

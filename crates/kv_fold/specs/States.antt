@@ -51,12 +51,12 @@ pub record State : Type 0 where
   pub first : Prefix
 
 -- the state of a fold that keeps a sum alone
-abbrev pub summed : FoldKind → ℕ → State
-summed kind total = record { kind = kind; total = total; first = nothing }
+abbrev pub sum_state : FoldKind → ℕ → State
+sum_state kind total = record { kind = kind; total = total; first = nothing }
 
 -- the state of a fold that keeps the first items alone
-abbrev pub led : ℕ → Prefix → State
-led most first = record { kind = TakingFirst most; total = 0; first = first }
+abbrev pub first_state : ℕ → Prefix → State
+first_state most first = record { kind = TakingFirst most; total = 0; first = first }
 
 -- the state of a fold of this kind over the bag
 unfoldable pub state_of : FoldKind → Bag → State
@@ -85,15 +85,15 @@ takes_memory AddingBytes = false
 takes_memory (TakingFirst most) = true
 
 -- the bytes that a fold of this kind answers from its sum and its first items
-abbrev pub answer_by : FoldKind → State → List ℕ
-answer_by Counting state = to_le_bytes w64 state.total
-answer_by AddingLengths state = to_le_bytes w64 state.total
-answer_by AddingBytes state = to_le_bytes w64 state.total
-answer_by (TakingFirst most) state = items_bytes state.first.items
+abbrev pub state_result_by : FoldKind → State → List ℕ
+state_result_by Counting state = to_le_bytes w64 state.total
+state_result_by AddingLengths state = to_le_bytes w64 state.total
+state_result_by AddingBytes state = to_le_bytes w64 state.total
+state_result_by (TakingFirst most) state = items_bytes state.first.items
 
 -- the bytes that a fold with this state answers
-abbrev pub answer_of : State → List ℕ
-answer_of state = answer_by state.kind state
+abbrev pub state_result : State → List ℕ
+state_result state = state_result_by state.kind state
 
 -- where the state is that of a bag, the bytes are the fold of the list of its items by rising key
 abbrev pub IsResult : State → List ℕ → Type 0

@@ -2,13 +2,13 @@ ghost use Rattle.std.specs.Prelude.{◌≡◌, ◌≤◌, IfOk, IfSome, IsNone, 
 ghost use Rattle.std.specs.FinMap.{empty};
 ghost use Rattle.kv_model.specs.Fold.{TakingFirst, item_size, most_bytes};
 ghost use Rattle.kv_fold.specs.Bags.{IsItem};
-ghost use Rattle.kv_fold.specs.States.{led, state_of};
+ghost use Rattle.kv_fold.specs.States.{first_state, state_of};
 ghost use Rattle.kv_fold.specs.Prefixes.{is_past, accept, accept_all, close};
 ghost use Rattle.kv_fold.specs.Places.{HasPlace, IsPlace, IsLeftOut, placed};
 
 use crate::Fold;
-use crate::answer::write_items;
 use crate::items::{drop_from, find_gap, make_room};
+use crate::result_bytes::write_items;
 use kv_base::{Bytes, NoMemory};
 use std::alloc::Global;
 use std::marker::Model;
@@ -26,11 +26,11 @@ pub struct First {
 }
 
 impl Model for First {
-    ghost use Rattle.kv_fold.specs.Firsts.{Leader, leader_code, AreFirst};
+    ghost use Rattle.kv_fold.specs.Firsts.{FirstItems, first_items_code, AreFirst};
 
-    ghost Value = { Leader };
+    ghost Value = { FirstItems };
 
-    ghost coded = { leader_code };
+    ghost coded = { first_items_code };
 
     ghost view = { λ s. record {
       most = s.most;
@@ -45,7 +45,7 @@ impl First {
     /// for the items that it copies.
     pub fn new(alloc: Global, most: u16) -> First
         ensures most { result.most ≡ most }
-        ensures empty { led most result.first ≡ state_of (TakingFirst most) empty }
+        ensures empty { first_state most result.first ≡ state_of (TakingFirst most) empty }
     {
         First {
             alloc,
@@ -180,7 +180,7 @@ impl First {
 }
 
 impl Fold for First {
-    ghost state = { λ s. led s.most s.first };
+    ghost state = { λ s. first_state s.most s.first };
 
     fn add(&mut self, key: &[u8], value: &[u8]) -> Result<(), NoMemory> {
         let size = 5 + key.len() + value.len();

@@ -1,6 +1,6 @@
 ghost use Rattle.std.specs.Prelude.{◌≡◌, ◌≢◌, ◌≤◌, length, false, IsOk, OnOk, IfOk};
 ghost use Rattle.kv_fold.specs.Bags.{IsItem};
-ghost use Rattle.kv_fold.specs.States.{State, Adds, Merges, takes_memory, answer_of, IsResult};
+ghost use Rattle.kv_fold.specs.States.{State, Adds, Merges, takes_memory, state_result, IsResult};
 
 use kv_base::{Bytes, NoMemory};
 use std::alloc::Global;
@@ -30,11 +30,11 @@ pub trait Fold: Drop {
         ensures kept { (state self.old).kind ≢ (state other).kind
             → state self.new ≡ state self.old };
 
-    /// The bytes of the answer, at most 60,002: a number or a sum in 8 bytes, least first; or the
+    /// The bytes of the result, at most 60,002: a number or a sum in 8 bytes, least first; or the
     /// number of items in 2 bytes and then each item, its key's length in 1 byte, its key, its
     /// value's length in 4 bytes and its value. The one error is want of memory.
     fn result(&self, alloc: Global) -> Result<Bytes, NoMemory>
-        ensures value { IfOk result (λ bytes. bytes ≡ answer_of (state self.now)) }
+        ensures value { IfOk result (λ bytes. bytes ≡ state_result (state self.now)) }
         ensures result { IfOk result (IsResult (state self.now)) }
         ensures limit { IfOk result (λ bytes. length bytes ≤ 60002) };
 }

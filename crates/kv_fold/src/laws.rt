@@ -1,4 +1,4 @@
-ghost use Rattle.kv_fold.specs.Laws.{OrderIsFree, AnswersAreResults, TotalsFit, TakesLongest};
+ghost use Rattle.kv_fold.specs.Laws.{OrderIsFree, ResultsAreFolds, TotalsFit, TakesLongest};
 
 /// Lists of the same items with distinct keys have one state, whatever their order.
 pub fn order_is_free()
@@ -6,8 +6,8 @@ pub fn order_is_free()
 {}
 
 /// What a state answers is the fold of the plain list of any bag that it stands for.
-pub fn answers_are_results()
-    ensures { AnswersAreResults }
+pub fn results_are_folds()
+    ensures { ResultsAreFolds }
 {}
 
 /// No sum over fewer than 2^32 items of the sizes that a store takes reaches 2^64.

@@ -1,7 +1,7 @@
 ghost use Rattle.std.specs.Prelude.{◌≡◌};
 ghost use Rattle.std.specs.FinMap.{empty};
 ghost use Rattle.kv_model.specs.Fold.{Counting, AddingLengths, AddingBytes};
-ghost use Rattle.kv_fold.specs.States.{summed, state_of};
+ghost use Rattle.kv_fold.specs.States.{sum_state, state_of};
 
 use crate::Fold;
 use kv_base::{Bytes, NoMemory};
@@ -12,7 +12,7 @@ use std::marker::Model;
 /// The number of items. Contracts see it.
 #[derive(Debug, Drop)]
 pub struct CountItems {
-    total: u64,
+    count: u64,
 }
 
 /// The sum of the value lengths, modulo 2^64. Contracts see it.
@@ -32,7 +32,7 @@ impl Model for CountItems {
 
     ghost Value = { ℕ };
 
-    ghost view = { λ s. s.total };
+    ghost view = { λ s. s.count };
 }
 
 impl Model for ValueLengths {
@@ -54,16 +54,16 @@ impl Model for ByteSum {
 impl CountItems {
     /// The fold of no item.
     pub fn new() -> CountItems
-        ensures { summed Counting result ≡ state_of Counting empty }
+        ensures { sum_state Counting result ≡ state_of Counting empty }
     {
-        CountItems { total: 0 }
+        CountItems { count: 0 }
     }
 }
 
 impl ValueLengths {
     /// The fold of no item.
     pub fn new() -> ValueLengths
-        ensures { summed AddingLengths result ≡ state_of AddingLengths empty }
+        ensures { sum_state AddingLengths result ≡ state_of AddingLengths empty }
     {
         ValueLengths { total: 0 }
     }
@@ -72,32 +72,32 @@ impl ValueLengths {
 impl ByteSum {
     /// The fold of no item.
     pub fn new() -> ByteSum
-        ensures { summed AddingBytes result ≡ state_of AddingBytes empty }
+        ensures { sum_state AddingBytes result ≡ state_of AddingBytes empty }
     {
         ByteSum { total: 0 }
     }
 }
 
 impl Fold for CountItems {
-    ghost state = { λ total. summed Counting total };
+    ghost state = { λ count. sum_state Counting count };
 
     fn add(&mut self, _key: &[u8], _value: &[u8]) -> Result<(), NoMemory> {
-        self.total = self.total.wrapping_add(1);
+        self.count = self.count.wrapping_add(1);
         Ok(())
     }
 
     fn merge(&mut self, other: Self) -> Result<(), NoMemory> {
-        self.total = self.total.wrapping_add(other.total);
+        self.count = self.count.wrapping_add(other.count);
         Ok(())
     }
 
     fn result(&self, alloc: Global) -> Result<Bytes, NoMemory> {
-        Bytes::copy(alloc, &self.total.to_le_bytes())
+        Bytes::copy(alloc, &self.count.to_le_bytes())
     }
 }
 
 impl Fold for ValueLengths {
-    ghost state = { λ total. summed AddingLengths total };
+    ghost state = { λ total. sum_state AddingLengths total };
 
     fn add(&mut self, _key: &[u8], value: &[u8]) -> Result<(), NoMemory> {
         self.total = self.total.wrapping_add(value.len() as u64);
@@ -115,7 +115,7 @@ impl Fold for ValueLengths {
 }
 
 impl Fold for ByteSum {
-    ghost state = { λ total. summed AddingBytes total };
+    ghost state = { λ total. sum_state AddingBytes total };
 
     fn add(&mut self, _key: &[u8], value: &[u8]) -> Result<(), NoMemory> {
         self.total = self.total.wrapping_add(sum_bytes(value));

@@ -23,7 +23,7 @@ fn add<F: Fold>(fold: &mut F, key: &[u8], value: &[u8]) -> Result<(), NoMemory> 
     fold.add(key, value)
 }
 
-// The answer over a list by rising key, worked out item by item.
+// The result over a list by rising key, worked out item by item.
 fn plain(
     alloc: Global,
     number: u32,
@@ -68,9 +68,9 @@ fn plain(
     Ok(bytes)
 }
 
-// The answer of three shares, among which the items are drawn in an order that is drawn, and which
+// The result of three shares, among which the items are drawn in an order that is drawn, and which
 // are merged in one of two ways.
-fn drawn_answer<F: Fold>(
+fn drawn_result<F: Fold>(
     alloc: Global,
     draw: &mut Pcg32,
     shares: (F, F, F),
@@ -149,10 +149,10 @@ fn any_order_and_any_shares_answer_the_fold_of_the_plain_list(rt: HostRuntime) -
                 fold_of(alloc, number, most),
                 fold_of(alloc, number, most),
             );
-            let answer = drawn_answer(alloc, &mut draw, shares, &items)?;
+            let result = drawn_result(alloc, &mut draw, shares, &items)?;
             let expected = plain(alloc, number, most, &items)?;
             assert_eq!(rt;
-                answer.as_slice(),
+                result.as_slice(),
                 expected.as_slice(),
                 "round {round}, fold {number}, most {most}"
             );
@@ -184,10 +184,10 @@ fn the_first_items_end_before_the_first_that_does_not_fit(rt: HostRuntime) -> Re
                 First::new(alloc, most),
                 First::new(alloc, most),
             );
-            let answer = drawn_answer(alloc, &mut draw, shares, &items)?;
-            assert_eq!(rt; answer.len(), size, "{name}");
+            let result = drawn_result(alloc, &mut draw, shares, &items)?;
+            assert_eq!(rt; result.len(), size, "{name}");
             assert!(rt;
-                answer.as_slice().starts_with(&count.to_le_bytes()),
+                result.as_slice().starts_with(&count.to_le_bytes()),
                 "{name}"
             );
         }
@@ -196,7 +196,7 @@ fn the_first_items_end_before_the_first_that_does_not_fit(rt: HostRuntime) -> Re
 }
 
 // The values `1`, `2` and `3` of the keys `a`, `b` and `c`, added from the last to the first.
-fn answer_of_three<F: Fold>(alloc: Global, mut fold: F) -> Result<Bytes, NoMemory> {
+fn result_of_three<F: Fold>(alloc: Global, mut fold: F) -> Result<Bytes, NoMemory> {
     for (key, value) in [(b"c", b"3"), (b"b", b"2"), (b"a", b"1")] {
         add(&mut fold, key, value)?;
     }
@@ -205,15 +205,15 @@ fn answer_of_three<F: Fold>(alloc: Global, mut fold: F) -> Result<Bytes, NoMemor
 
 // The bytes are written by hand; 49 + 50 + 51 is 150.
 #[test]
-fn answers_have_the_bytes_that_are_written_by_hand(rt: HostRuntime) -> Result<(), Fail> {
+fn results_have_the_bytes_that_are_written_by_hand(rt: HostRuntime) -> Result<(), Fail> {
     let alloc = rt.alloc();
-    let count = answer_of_three(alloc, CountItems::new())?;
+    let count = result_of_three(alloc, CountItems::new())?;
     assert_eq!(rt; count.as_slice(), [3, 0, 0, 0, 0, 0, 0, 0].as_slice());
-    let lengths = answer_of_three(alloc, ValueLengths::new())?;
+    let lengths = result_of_three(alloc, ValueLengths::new())?;
     assert_eq!(rt; lengths.as_slice(), [3, 0, 0, 0, 0, 0, 0, 0].as_slice());
-    let sum = answer_of_three(alloc, ByteSum::new())?;
+    let sum = result_of_three(alloc, ByteSum::new())?;
     assert_eq!(rt; sum.as_slice(), [150, 0, 0, 0, 0, 0, 0, 0].as_slice());
-    let first = answer_of_three(alloc, First::new(alloc, 2))?;
+    let first = result_of_three(alloc, First::new(alloc, 2))?;
     assert_eq!(rt;
         first.as_slice(),
         b"\x02\0\x01a\x01\0\0\01\x01b\x01\0\0\02".as_slice()
@@ -233,10 +233,10 @@ fn a_fold_of_another_kind_changes_nothing(rt: HostRuntime) -> Result<(), Fail> {
                 let mut other = fold_of(alloc, other_number, other_most);
                 add(&mut other, b"b", b"22")?;
                 fold.merge(other)?;
-                let answer = fold.result(alloc)?;
+                let result = fold.result(alloc)?;
                 let alone = plain(alloc, number, most, &[one_item(alloc)?])?;
                 assert_eq!(rt;
-                    answer.as_slice(),
+                    result.as_slice(),
                     alone.as_slice(),
                     "{number} and {other_number}"
                 );
@@ -259,7 +259,7 @@ fn folds_cross_threads(rt: HostRuntime) -> Result<(), Fail> {
     let alloc = rt.alloc();
     let mut fold = crosses_threads(fold_of(alloc, 3, 1));
     add(&mut fold, b"a", b"1")?;
-    let answer = crosses_threads(fold).result(alloc)?;
-    assert_eq!(rt; answer.len(), 9, "2 and an item of 7");
+    let result = crosses_threads(fold).result(alloc)?;
+    assert_eq!(rt; result.len(), 9, "2 and an item of 7");
     Ok(())
 }

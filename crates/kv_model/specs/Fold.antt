@@ -23,11 +23,11 @@ total_of AddingLengths items = sum_by (λ item. length item.1) items
 total_of AddingBytes items = sum_by (λ item. sum item.1) items
 total_of (TakingFirst most) items = 0
 
--- the bytes that one item has in an answer
+-- the bytes that one item has in a result
 abbrev pub item_size : KeyValue → ℕ
 item_size item = 5 + length item.0 + length item.1
 
--- the most bytes that all items of one answer have
+-- the most bytes that all items of one result have
 abbrev pub most_bytes : ℕ
 most_bytes = 60000
 
@@ -38,11 +38,11 @@ longest_prefix zero room (item ∷ items) = []
 longest_prefix (suc most) room (item ∷ items) = if nat_le (item_size item) room
     then item ∷ longest_prefix most (room - item_size item) items else []
 
--- an item in an answer: its key's length, its key, its value's length and its value
+-- an item in a result: its key's length, its key, its value's length and its value
 abbrev pub item_bytes : KeyValue → List ℕ
 item_bytes item = length item.0 ∷ item.0 ++ to_le_bytes w32 (length item.1) ++ item.1
 
--- items in an answer: how many they are, and each of them
+-- items in a result: how many they are, and each of them
 abbrev pub items_bytes : List KeyValue → List ℕ
 items_bytes items = to_le_bytes w16 (length items) ++ flat_map item_bytes items
 

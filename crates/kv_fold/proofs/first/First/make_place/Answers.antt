@@ -1,6 +1,6 @@
 use Rattle.std.proofs.Common.{sym, ap, ◌∙◌, arith, subst, Some}
 use Rattle.kv_model.specs.Fold.{most_bytes}
-use Rattle.kv_fold.specs.Firsts.{Leader}
+use Rattle.kv_fold.specs.Firsts.{FirstItems}
 use Rattle.kv_fold.specs.States.{prefix}
 use Rattle.kv_fold.specs.Prefixes.{is_past, accept}
 use Rattle.kv_fold.specs.Places.{IsPlace, placed}
@@ -17,7 +17,8 @@ pub returns-then-fits-clause-place : goal.returns-then-fits-clause-place
 returns-then-fits-clause-place c =
     let gap = rw c.deref.ensures.value at c.in-Some.ensures in
     let within =
-    ap (λ (l : Leader). is_past l.first.cut c.args.key.now) c.self.view_is ∙ sym c.is_past.ensures
+    ap (λ (l : FirstItems). is_past l.first.cut c.args.key.now) c.self.view_is
+    ∙ sym c.is_past.ensures
     ∙ c.if-is_past.false in
     let room = c.make_room-fits.ensures in
     let made =
@@ -26,7 +27,7 @@ returns-then-fits-clause-place c =
     (prefix c.make_room-fits.new.items.items c.make_room-fits.new.cut) c.make_room-fits.result
     (yes _ c.self.invariant.rising) within gap room.value in
     subst
-    (λ (l : Leader). IsPlace l.most c.in-Some.place c.args.size c.args.key.now l.first
+    (λ (l : FirstItems). IsPlace l.most c.in-Some.place c.args.size c.args.key.now l.first
     (prefix c.make_room-fits.new.items.items c.make_room-fits.new.cut)) c.self.view_is
     (record {
       has = record {
@@ -47,7 +48,8 @@ pub returns-clause-none : goal.returns-clause-none
 returns-clause-none c none value is =
     let gap = rw c.deref.ensures.value at c.in-Some.ensures in
     let within =
-    ap (λ (l : Leader). is_past l.first.cut c.args.key.now) c.self.view_is ∙ sym c.is_past.ensures
+    ap (λ (l : FirstItems). is_past l.first.cut c.args.key.now) c.self.view_is
+    ∙ sym c.is_past.ensures
     ∙ c.if-is_past.false in
     let room = c.make_room-fits.ensures in
     let made =
@@ -60,4 +62,4 @@ returns-clause-none c none value is =
     (prefix c.make_room-fits.new.items.items c.make_room-fits.new.cut))
     (sym c.if-fits.false)
     ∙ made
-    ∙ ap (λ (l : Leader). accept l.most most_bytes c.args.key.now value l.first) c.self.view_is
+    ∙ ap (λ (l : FirstItems). accept l.most most_bytes c.args.key.now value l.first) c.self.view_is

@@ -1,7 +1,7 @@
 use Rattle.std.proofs.Common.{length}
 use Rattle.std.specs.Int.{w16, to_le_bytes}
 use Rattle.kv_fold.proofs.ResultLemmas.{more_items}
-use Rattle.kv_fold.proofs.answer.write_items.Goals as goal
+use Rattle.kv_fold.proofs.result_bytes.write_items.Goals as goal
 
 pub loop-item-preserved : goal.loop-item-preserved
 loop-item-preserved c =

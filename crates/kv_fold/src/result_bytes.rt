@@ -5,7 +5,7 @@ ghost use Rattle.kv_fold.specs.Bags.{IsItem};
 use kv_base::{Bytes, NoMemory};
 use std::alloc::Global;
 
-// The bytes of an answer with these items, which are so many.
+// The bytes of a result with these items, which are so many.
 pub(crate) fn write_items(
     alloc: Global,
     items: &[(Bytes, Bytes)],
@@ -23,7 +23,7 @@ pub(crate) fn write_items(
     Ok(bytes)
 }
 
-// Appends an item of an answer.
+// Appends an item of a result.
 fn append_item(bytes: &mut Vec<u8>, key: &[u8], value: &[u8]) -> Result<(), NoMemory>
     requires { IsItem key.now value.now }
     ensures { OnOk result (bytes.new.items ≡ bytes.old.items ++ item_bytes (key.now, value.now)) }

@@ -13,9 +13,8 @@ abbrev pub HasDistinctKeys : List KeyValue → Type 0
 HasDistinctKeys [] = ⊤
 HasDistinctKeys (item ∷ items) = (find order item.0 items ≡ None) × HasDistinctKeys items
 
--- lists of the same items with distinct keys are one bag, in which order ever their items are
--- added,
--- and so have one state
+-- lists of the same items with distinct keys are one bag, whatever the order in which the items are
+-- added, and so have one state
 abbrev pub OrderIsFree : Type 0
 OrderIsFree = (kind : FoldKind) (items more : List KeyValue) → HasDistinctKeys items
     → HasDistinctKeys more → ((item : KeyValue) → Contains items item ↔ Contains more item)
@@ -29,8 +28,7 @@ ResultsAreFolds = (state : State) → IsResult state (state_result state)
 abbrev pub TotalsFit : Type 0
 TotalsFit = (kind : FoldKind) (bag : Bag) → IsGood bag → total_of kind (entries bag) < 2 ^ 64
 
--- these are the longest prefix of the items that is of at most so many and has at most so many
--- bytes
+-- the front is the longest prefix of at most so many items that have at most so many bytes
 pub record IsLongest (most room : ℕ) (items front : List KeyValue) : Type 0 where
   pub tail : List KeyValue
   pub parts : items ≡ front ++ tail

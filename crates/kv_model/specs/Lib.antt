@@ -10,6 +10,7 @@ pub mod Transcript
 pub mod Padding
 pub mod Slots
 pub mod SlotBytes
+pub mod Fold
 pub mod Head
 pub mod Batch
 pub mod Items

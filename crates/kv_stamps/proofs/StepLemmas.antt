@@ -168,7 +168,7 @@ module _ {S : Type 0} (origin : Origin) where
           let new : View = drawn_view count next old in
           let live : IsLive (next + count) new = record {
             drawn = All-push (IsOfStamps old.start) old.drawn (range next count) l.drawn
-                (started, fit);
+                (started, some', fit);
             spent = l.spent;
             started = omega arith;
             seen = le_refl (next + count);
@@ -182,7 +182,13 @@ module _ {S : Type 0} (origin : Origin) where
               (λ number. omega (arith, within-range number next count,
                   sum_by_push (within number) old.drawn (range next count)))
               (λ others le. omega arith))
-          (refl, (λ f. record { fits = fit; view = refl; later = l.seen; rule = live }),
+          (refl, (λ f. record {
+                fits = fit;
+                view = refl;
+                later = l.seen;
+                above = l.raised;
+                rule = live;
+              }),
               λ past. absurd (omega arith)))
       (cases_lt (2 ^ 62) (next + count))
 

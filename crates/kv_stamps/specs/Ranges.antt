@@ -26,9 +26,9 @@ among number ranges = sum_by (within number) ranges
 abbrev pub EndsBy : ℕ → Range → Type 0
 EndsBy end r = r.first + r.count ≤ end
 
--- the range is one of stamps, which are at least the start and at most 2^62 - 1
+-- the range is one of stamps: it has one, and all are at least the start and at most 2^62 - 1
 abbrev pub IsOfStamps : ℕ → Range → Type 0
-IsOfStamps start r = (start ≤ r.first) × EndsBy (2 ^ 62) r
+IsOfStamps start r = (start ≤ r.first) × (1 ≤ r.count) × EndsBy (2 ^ 62) r
 
 -- the range has a number above the last stamp, and is no longer than a batch
 abbrev pub PassesLimit : Range → Type 0

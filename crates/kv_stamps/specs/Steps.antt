@@ -43,11 +43,12 @@ drawn_view count next view = record view {
   drawn = view.drawn ++ range next count ∷ [];
 }
 
--- a draw of so many stamps
+-- a draw of so many stamps, above all that the seat had seen or raised to
 pub record Draws (count : ℕ) (old : View) (next : ℕ) (new : View) : Type 0 where
   pub fits : next + count ≤ 2 ^ 62
   pub view : new ≡ drawn_view count next old
   pub later : old.seen ≤ next
+  pub above : old.raised ≤ next
   pub rule : IsLive (next + count) new
 
 -- the view after a StampsSpent of the next number, where so many were asked

@@ -2,6 +2,7 @@
 #![tactic(auto)]
 
 mod counter;
+mod laws;
 mod seat;
 mod spent;
 #[cfg(test)]
@@ -9,5 +10,6 @@ mod tests;
 mod view;
 
 pub use counter::Stamps;
+pub use laws::counters_cross_threads;
 pub use seat::StampSeat;
 pub use spent::StampsSpent;

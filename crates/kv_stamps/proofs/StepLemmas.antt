@@ -67,6 +67,7 @@ module _ {S : Type 0} (origin : Origin) where
         view = refl;
         later = l.seen;
         rule = live;
+        once = covers-le origin state.words state.views id old h at;
         all = λ whole.
             let a = is_all origin state.words state.views id old h at has whole in
             record { numbers = a.numbers; limit = a.limit };

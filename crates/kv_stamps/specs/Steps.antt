@@ -6,6 +6,10 @@ use Rattle.kv_stamps.specs.declared.view.View.{View}
 use Rattle.kv_stamps.specs.Ranges.{range}
 use Rattle.kv_stamps.specs.Rule.{covers, IsLive, IsAll}
 
+-- no number is twice in a seat's ranges, gaps and runs
+abbrev pub HasNoNumberTwice : View → Type 0
+HasNoNumberTwice view = (number : ℕ) → covers number view ≤ 1
+
 -- the view after the next number was seen
 abbrev pub seen_view : ℕ → View → View
 seen_view next view = record view { seen = next }
@@ -16,6 +20,7 @@ pub record Looks (old : View) (next : ℕ) (new : View) : Type 0 where
   pub view : new ≡ seen_view next old
   pub later : old.seen ≤ next
   pub rule : IsLive next new
+  pub once : HasNoNumberTwice new
   pub all : new.weight ≡ new.seats → IsAll next new
 
 -- the numbers that a raise passes over: from the next one up to this, if there are any
@@ -94,7 +99,3 @@ joined_view view other = record {
   gaps = view.gaps ++ other.gaps;
   spent = view.spent ++ other.spent;
 }
-
--- no number is twice in a seat's ranges, gaps and runs
-abbrev pub HasNoNumberTwice : View → Type 0
-HasNoNumberTwice view = (number : ℕ) → covers number view ≤ 1

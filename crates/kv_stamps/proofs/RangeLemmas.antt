@@ -28,15 +28,15 @@ pub among-gap_to : (number to next : ℕ)
 among-gap_to number to next =
     ⊎_elim
     (λ (lt : next < to). rw (lt-ltb next to lt)
-        (let r = within-range number next (to - next) in
-        let e : below number (next + (to - next)) ≡ below number to =
-            ap (below number) (omega arith) in
-        let m : below number (max next to) ≡ below number to = ap (below number) (omega arith) in
-        omega arith))
+    (let r = within-range number next (to - next) in
+    let e : below number (next + (to - next)) ≡ below number to =
+    ap (below number) (omega arith) in
+    let m : below number (max next to) ≡ below number to = ap (below number) (omega arith) in
+    omega arith))
     (λ (ge : to ≤ next). rw (le-ltb next to ge)
-        (let m : below number (max next to) ≡ below number next =
-            ap (below number) (omega arith) in
-        omega arith))
+    (let m : below number (max next to) ≡ below number next =
+    ap (below number) (omega arith) in
+    omega arith))
     (cases_lt next to)
 
 -- the gap of a raise ends at or below what was raised to
@@ -45,7 +45,7 @@ gap_to-EndsBy raised to next =
     let P : Range → Type 0 = EndsBy (max raised to) in
     ⊎_elim
     (λ (lt : next < to). rw (lt-ltb next to lt)
-        (All-cons P (range next (to - next)) [] (omega arith) (All-nil P)))
+    (All-cons P (range next (to - next)) [] (omega arith) (All-nil P)))
     (λ (ge : to ≤ next). rw (le-ltb next to ge) (All-nil P))
     (cases_lt next to)
 

@@ -19,17 +19,19 @@ pub IsSeat-later : (origin : Origin) (a b : ℕ) (view : View) → a ≤ b → I
     → IsSeat origin b view
 IsSeat-later origin a b view le seat = record {
   live = λ has.
-      let l = (seat.live has).1 in
-      ((seat.live has).0, record {
-        drawn = l.drawn;
-        spent = l.spent;
-        started = l.started;
-        seen = omega (arith, l.seen);
-        raised = omega (arith, l.raised);
-        gaps = l.gaps;
-        share = l.share;
-        few = l.few;
-      });
+      let l = (seat.live has).1 in (
+        (seat.live has).0,
+        record {
+          drawn = l.drawn;
+          spent = l.spent;
+          started = l.started;
+          seen = omega (arith, l.seen);
+          raised = omega (arith, l.raised);
+          gaps = l.gaps;
+          share = l.share;
+          few = l.few;
+        },
+      );
   left = seat.left;
 }
 
@@ -53,15 +55,15 @@ pub changes : (origin : Origin) (words : List ℕ) (views : List View) (id : ℕ
     (next : ℕ) (h : Holds origin words views)
     → get_elem? views id ≡ some old → h.next ≤ next → IsSeat origin next new
     → ((number : ℕ)
-        → covers number new + below number h.next ≡ covers number old + below number next)
+    → covers number new + below number h.next ≡ covers number old + below number next)
     → new.weight ≡ old.weight
     → ((others : ℕ) → h.next ≤ 2 ^ 62 + 512 * (others + refusals old)
-        → next ≤ 2 ^ 62 + 512 * (others + refusals new))
+    → next ≤ 2 ^ 62 + 512 * (others + refusals new))
     → Holds origin (next ∷ []) (set views id new)
 changes origin words views id old new next h at le seat moved same room =
     let others : ℕ = sum_by refusals (set views id left_view) in
     let without : others + refusals old ≡ sum_by refusals views + 0 =
-        sum_set refusals views id old left_view at in
+    sum_set refusals views id old left_view at in
     let with' = sum_set refusals views id old new at in
     let before : h.next ≤ 2 ^ 62 + 512 * (others + refusals old) = omega (arith, h.limit) in
     let after = room others before in
@@ -75,7 +77,7 @@ changes origin words views id old new next h at le seat moved same room =
       start = omega (arith, h.start);
       seats = All-set (IsSeat origin next) views id new seat
           (All-weaker (IsSeat origin h.next) (IsSeat origin next)
-              (λ view was. IsSeat-later origin h.next next view le was) views h.seats);
+          (λ view was. IsSeat-later origin h.next next view le was) views h.seats);
       limit = omega arith;
       weights = omega (arith, h.weights, sum_set weight views id old new at);
       few = h.few;
@@ -95,7 +97,7 @@ pub next-le : (origin : Origin) (words : List ℕ) (views : List View)
     (h : Holds origin words views) → h.next ≤ 2 ^ 62 + 512 * 24
 next-le origin words views h =
     let fewer = sum_le refusals weight views (All-weaker (IsSeat origin h.next)
-        (λ view. refusals view ≤ weight view) (refusals-le-weight origin h.next) views h.seats) in
+    (λ view. refusals view ≤ weight view) (refusals-le-weight origin h.next) views h.seats) in
     omega (arith, h.limit, h.weights, h.few)
 
 -- a seat without weight is one that was joined to another
@@ -113,13 +115,13 @@ is_all origin words views id view h at has whole =
     let seats : view.seats ≡ origin.seats = ap (λ (o : Origin). o.seats) same in
     let sum : sum_by weight views ≡ view.weight = omega (arith, h.weights) in
     let gives : (f : View → ℕ) → f left_view ≡ 0 → All (GivesByWeight f) views = λ f nothing.
-        All-weaker (IsSeat origin h.next) (GivesByWeight f)
-            (by_weight f origin h.next nothing) views h.seats in
+    All-weaker (IsSeat origin h.next) (GivesByWeight f)
+    (by_weight f origin h.next nothing) views h.seats in
     record {
       numbers = λ number.
           let alone = sum_alone (covers number) views id view at (gives (covers number) refl) sum in
           let moved : between number view.start h.next ≡ between number origin.start h.next =
-              ap (λ (s : ℕ). between number s h.next) start in
+          ap (λ (s : ℕ). between number s h.next) start in
           omega (arith, h.numbers number);
       limit =
           let alone = sum_alone refusals views id view at (gives refusals refl) sum in
@@ -131,5 +133,9 @@ pub covers-le : (origin : Origin) (words : List ℕ) (views : List View) (id : �
     (h : Holds origin words views) → get_elem? views id ≡ some view
     → (number : ℕ) → covers number view ≤ 1
 covers-le origin words views id view h at number =
-    omega (arith, h.numbers number, sum_has (covers number) views id view at,
-        between-le number origin.start h.next)
+    omega (
+      arith,
+      h.numbers number,
+      sum_has (covers number) views id view at,
+      between-le number origin.start h.next,
+    )

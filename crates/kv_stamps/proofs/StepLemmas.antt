@@ -33,18 +33,18 @@ module _ {S : Type 0} (origin : Origin) where
       (then : ℕ → Me S View → Type 0) (h : Kept state) (new : View)
       → Holds origin (f h.next ∷ []) (set state.views id new) → then h.next (new, me.1)
       → (w : View) × (a : Act S) × Valid state.homes me.1 a
-          × Holds origin (slice_set state.words 0 (f (slice_index state.words 0)))
-              (slice_set state.views id w)
-          × then (slice_index state.words 0) (w, carried_after me.1 a)
+      × Holds origin (slice_set state.words 0 (f (slice_index state.words 0)))
+      (slice_set state.views id w)
+      × then (slice_index state.words 0) (w, carried_after me.1 a)
   goes state id me f then h new kept told =
       let P : List ℕ → Type 0 = λ words. (w : View) × (a : Act S) × Valid state.homes me.1 a
-          × Holds origin (slice_set words 0 (f (slice_index words 0))) (slice_set state.views id w)
-          × then (slice_index words 0) (w, carried_after me.1 a) in
+      × Holds origin (slice_set words 0 (f (slice_index words 0))) (slice_set state.views id w)
+      × then (slice_index words 0) (w, carried_after me.1 a) in
       subst P (sym h.word) (new, keeps, tt, kept, told)
 
   pub looks : (slots id : ℕ) (me : Me S View) → 1 ≤ me.0.weight
       → Allows Kept slots id me 0 (λ next. next)
-          (λ next new. (new.1 ≡ me.1) × Looks me.0 next new.0)
+      (λ next new. (new.1 ≡ me.1) × Looks me.0 next new.0)
   looks slots id me has state h len at small =
       let old : View = me.0 in
       let was = live_at origin state.words state.views id old h at has in
@@ -62,30 +62,32 @@ module _ {S : Type 0} (origin : Origin) where
       } in
       goes state id me (λ next. next) (λ next new. (new.1 ≡ me.1) × Looks me.0 next new.0) h new
       (changes origin state.words state.views id old new h.next h at (le_refl h.next)
-          (live_seat origin h.next new was.0 live) (λ number. refl) refl (λ others le. le))
-      (refl, record {
-        view = refl;
-        later = l.seen;
-        rule = live;
-        once = covers-le origin state.words state.views id old h at;
-        all = λ whole.
-            let a = is_all origin state.words state.views id old h at has whole in
-            record { numbers = a.numbers; limit = a.limit };
-      })
+      (live_seat origin h.next new was.0 live) (λ number. refl) refl (λ others le. le)) (
+        refl,
+        record {
+          view = refl;
+          later = l.seen;
+          rule = live;
+          once = covers-le origin state.words state.views id old h at;
+          all = λ whole.
+              let a = is_all origin state.words state.views id old h at has whole in
+              record { numbers = a.numbers; limit = a.limit };
+        },
+      )
 
   pub checks : (slots id : ℕ) (me : Me S View) → 1 ≤ me.0.weight
       → Allows Kept slots id me 0 (λ next. next)
-          (λ next new. (new ≡ me) × HasNoNumberTwice me.0)
+      (λ next new. (new ≡ me) × HasNoNumberTwice me.0)
   checks slots id me has state h len at small =
       let was = live_at origin state.words state.views id me.0 h at has in
       goes state id me (λ next. next) (λ next new. (new ≡ me) × HasNoNumberTwice me.0) h me.0
       (changes origin state.words state.views id me.0 me.0 h.next h at (le_refl h.next)
-          (live_seat origin h.next me.0 was.0 was.1) (λ number. refl) refl (λ others le. le))
+      (live_seat origin h.next me.0 was.0 was.1) (λ number. refl) refl (λ others le. le))
       (refl, covers-le origin state.words state.views id me.0 h at)
 
   pub raises : (slots id : ℕ) (me : Me S View) (to : ℕ) → 1 ≤ me.0.weight → to ≤ 2 ^ 62
       → Allows Kept slots id me 0 (λ next. max next to)
-          (λ next new. (new.1 ≡ me.1) × Raises to me.0 next new.0)
+      (λ next new. (new.1 ≡ me.1) × Raises to me.0 next new.0)
   raises slots id me to has low state h len at small =
       let old : View = me.0 in
       let was = live_at origin state.words state.views id old h at has in
@@ -107,18 +109,21 @@ module _ {S : Type 0} (origin : Origin) where
       goes state id me (λ next. max next to)
       (λ next new. (new.1 ≡ me.1) × Raises to me.0 next new.0) h new
       (changes origin state.words state.views id old new next h at (omega arith)
-          (live_seat origin next new was.0 live)
-          (λ number. omega (arith, among-gap_to number to h.next,
-              sum_by-append (within number) old.gaps (gap_to to h.next)))
-          refl (λ others le. omega arith))
+      (live_seat origin next new was.0 live)
+      (λ number. omega (
+        arith,
+        among-gap_to number to h.next,
+        sum_by-append (within number) old.gaps (gap_to to h.next),
+      ))
+      refl (λ others le. omega arith))
       (refl, record { view = refl; later = l.seen; rule = live })
 
   -- a seat that met no StampsSpent
   pub draws : (slots id : ℕ) (me : Me S View) (count : ℕ) → 1 ≤ me.0.weight → me.0.spent ≡ []
       → 1 ≤ count → count ≤ 512
       → Allows Kept slots id me 0 (λ next. (next + count) % 2 ^ 64)
-          (λ next new. (new.1 ≡ me.1) × (next + count ≤ 2 ^ 62 → Draws count me.0 next new.0)
-              × (2 ^ 62 < next + count → Spends count me.0 next new.0))
+      (λ next new. (new.1 ≡ me.1) × (next + count ≤ 2 ^ 62 → Draws count me.0 next new.0)
+      × (2 ^ 62 < next + count → Spends count me.0 next new.0))
   draws slots id me count has none some' few state h len at small =
       let old : View = me.0 in
       let was = live_at origin state.words state.views id old h at has in
@@ -130,67 +135,77 @@ module _ {S : Type 0} (origin : Origin) where
       let started : old.start ≤ next = omega (arith, l.started, l.seen) in
       let raised : old.raised ≤ next + count = omega (arith, l.raised) in
       let step : (new : View) → IsLive (next + count) new → new.weight ≡ old.weight
-          → IsSeat origin (next + count) new
-          → ((number : ℕ) → covers number new + below number next
-              ≡ covers number old + below number (next + count))
-          → ((others : ℕ) → next ≤ 2 ^ 62 + 512 * (others + refusals old)
-              → next + count ≤ 2 ^ 62 + 512 * (others + refusals new))
-          → Holds origin ((next + count) % 2 ^ 64 ∷ []) (set state.views id new) =
-          λ new live same seat moved room.
-          subst (λ (n : ℕ). Holds origin (n ∷ []) (set state.views id new)) (sym fits)
-          (changes origin state.words state.views id old new (next + count) h at (omega arith)
-              seat moved same room) in
+      → IsSeat origin (next + count) new
+      → ((number : ℕ) → covers number new + below number next
+      ≡ covers number old + below number (next + count))
+      → ((others : ℕ) → next ≤ 2 ^ 62 + 512 * (others + refusals old)
+      → next + count ≤ 2 ^ 62 + 512 * (others + refusals new))
+      → Holds origin ((next + count) % 2 ^ 64 ∷ []) (set state.views id new) =
+      λ new live same seat moved room.
+      subst (λ (n : ℕ). Holds origin (n ∷ []) (set state.views id new)) (sym fits)
+      (changes origin state.words state.views id old new (next + count) h at (omega arith)
+      seat moved same room) in
       let then : ℕ → Me S View → Type 0 = λ next new. (new.1 ≡ me.1)
-          × (next + count ≤ 2 ^ 62 → Draws count me.0 next new.0)
-          × (2 ^ 62 < next + count → Spends count me.0 next new.0) in
+      × (next + count ≤ 2 ^ 62 → Draws count me.0 next new.0)
+      × (2 ^ 62 < next + count → Spends count me.0 next new.0) in
       ⊎_elim
       (λ (past : 2 ^ 62 < next + count).
-          let new : View = spent_view count next old in
-          let longer : length new.spent ≡ length old.spent + 1 =
-              length-append old.spent (range next count ∷ []) in
-          let live : IsLive (next + count) new = record {
-            drawn = l.drawn;
-            spent = All-push PassesLimit old.spent (range next count) l.spent (past, few);
-            started = omega arith;
-            seen = le_refl (next + count);
-            raised = raised;
-            gaps = l.gaps;
-            share = l.share;
-            few = omega arith;
-          } in
-          goes state id me (λ next. (next + count) % 2 ^ 64) then h new
-          (step new live refl (live_seat origin (next + count) new was.0 live)
-              (λ number. omega (arith, within-range number next count,
-                  sum_by_push (within number) old.spent (range next count)))
-              (λ others le. omega arith))
-          (refl, (λ fit. absurd (omega arith)),
-              λ p. record { passes = past; view = refl; later = l.seen; rule = live }))
+      let new : View = spent_view count next old in
+      let longer : length new.spent ≡ length old.spent + 1 =
+      length-append old.spent (range next count ∷ []) in
+      let live : IsLive (next + count) new = record {
+        drawn = l.drawn;
+        spent = All-push PassesLimit old.spent (range next count) l.spent (past, few);
+        started = omega arith;
+        seen = le_refl (next + count);
+        raised = raised;
+        gaps = l.gaps;
+        share = l.share;
+        few = omega arith;
+      } in
+      goes state id me (λ next. (next + count) % 2 ^ 64) then h new
+      (step new live refl (live_seat origin (next + count) new was.0 live)
+      (λ number. omega (
+        arith,
+        within-range number next count,
+        sum_by_push (within number) old.spent (range next count),
+      ))
+      (λ others le. omega arith)) (
+        refl,
+        (λ fit. absurd (omega arith)),
+        λ p. record { passes = past; view = refl; later = l.seen; rule = live },
+      ))
       (λ (fit : next + count ≤ 2 ^ 62).
-          let new : View = drawn_view count next old in
-          let live : IsLive (next + count) new = record {
-            drawn = All-push (IsOfStamps old.start) old.drawn (range next count) l.drawn
-                (started, some', fit);
-            spent = l.spent;
-            started = omega arith;
-            seen = le_refl (next + count);
-            raised = raised;
-            gaps = l.gaps;
-            share = l.share;
-            few = l.few;
-          } in
-          goes state id me (λ next. (next + count) % 2 ^ 64) then h new
-          (step new live refl (live_seat origin (next + count) new was.0 live)
-              (λ number. omega (arith, within-range number next count,
-                  sum_by_push (within number) old.drawn (range next count)))
-              (λ others le. omega arith))
-          (refl, (λ f. record {
-                fits = fit;
-                view = refl;
-                later = l.seen;
-                above = l.raised;
-                rule = live;
-              }),
-              λ past. absurd (omega arith)))
+      let new : View = drawn_view count next old in
+      let live : IsLive (next + count) new = record {
+        drawn = All-push (IsOfStamps old.start) old.drawn (range next count) l.drawn
+            (started, some', fit);
+        spent = l.spent;
+        started = omega arith;
+        seen = le_refl (next + count);
+        raised = raised;
+        gaps = l.gaps;
+        share = l.share;
+        few = l.few;
+      } in
+      goes state id me (λ next. (next + count) % 2 ^ 64) then h new
+      (step new live refl (live_seat origin (next + count) new was.0 live)
+      (λ number. omega (
+        arith,
+        within-range number next count,
+        sum_by_push (within number) old.drawn (range next count),
+      ))
+      (λ others le. omega arith)) (
+        refl,
+        (λ f. record {
+          fits = fit;
+          view = refl;
+          later = l.seen;
+          above = l.raised;
+          rule = live;
+        }),
+        λ past. absurd (omega arith),
+      ))
       (cases_lt (2 ^ 62) (next + count))
 
   pub splits : (id : ℕ) (view : View) → 1 < view.weight → view.spent ≡ []
@@ -226,17 +241,28 @@ module _ {S : Type 0} (origin : Origin) where
       record {
         next = h.next;
         word = h.word;
-        numbers = λ number. omega (arith, h.numbers number,
-            sum_by_push (covers number) views right,
-            sum_set (covers number) state.views id view left at);
+        numbers = λ number. omega (
+          arith,
+          h.numbers number,
+          sum_by_push (covers number) views right,
+          sum_set (covers number) state.views id view left at,
+        );
         start = h.start;
         seats = All-push P views right
             (All-set P state.views id left (live_seat origin h.next left was.0 kept) h.seats)
             (live_seat origin h.next right was.0 fresh);
-        limit = omega (arith, h.limit, sum_by_push refusals views right,
-            sum_set refusals state.views id view left at);
-        weights = omega (arith, h.weights, sum_by_push weight views right,
-            sum_set weight state.views id view left at);
+        limit = omega (
+          arith,
+          h.limit,
+          sum_by_push refusals views right,
+          sum_set refusals state.views id view left at,
+        );
+        weights = omega (
+          arith,
+          h.weights,
+          sum_by_push weight views right,
+          sum_set weight state.views id view left at,
+        );
         few = h.few;
       }
 
@@ -245,16 +271,16 @@ module _ {S : Type 0} (origin : Origin) where
   joins id view from other has theirs state h at apart there =
       let both : View = joined_view view other in
       let before : get_elem? state.views from ≡ some other = ⊎_elim
-          (λ (t : (from ≡ id) × (both ≡ other)). absurd (apart t.0))
-          (λ (t : (from ≢ id) × (get_elem? state.views from ≡ some other)). t.1)
-          (at_set state.views id from both other there) in
+      (λ (t : (from ≡ id) × (both ≡ other)). absurd (apart t.0))
+      (λ (t : (from ≢ id) × (get_elem? state.views from ≡ some other)). t.1)
+      (at_set state.views id from both other there) in
       let was = live_at origin state.words state.views id view h at has in
       let l = was.1 in
       let it = live_at origin state.words state.views from other h before theirs in
       let m = it.1 in
       let starts : other.start ≡ view.start = ap (λ (o : Origin). o.start) (it.0 ∙ sym was.0) in
       let longer : length both.spent ≡ length view.spent + length other.spent =
-          length-append view.spent other.spent in
+      length-append view.spent other.spent in
       let raised : ℕ = max view.raised other.raised in
       let live : IsLive h.next both = record {
         drawn = All-append (IsOfStamps view.start) view.drawn other.drawn l.drawn
@@ -278,18 +304,29 @@ module _ {S : Type 0} (origin : Origin) where
       record {
         next = h.next;
         word = h.word;
-        numbers = λ number. omega (arith, h.numbers number,
-            sum_set (covers number) one from other left_view there,
-            sum_set (covers number) state.views id view both at,
-            sum_by-append (within number) view.drawn other.drawn,
-            sum_by-append (within number) view.gaps other.gaps,
-            sum_by-append (within number) view.spent other.spent);
+        numbers = λ number. omega (
+          arith,
+          h.numbers number,
+          sum_set (covers number) one from other left_view there,
+          sum_set (covers number) state.views id view both at,
+          sum_by-append (within number) view.drawn other.drawn,
+          sum_by-append (within number) view.gaps other.gaps,
+          sum_by-append (within number) view.spent other.spent,
+        );
         start = h.start;
         seats = All-set P one from left_view gone
             (All-set P state.views id both (live_seat origin h.next both was.0 live) h.seats);
-        limit = omega (arith, h.limit, sum_set refusals one from other left_view there,
-            sum_set refusals state.views id view both at);
-        weights = omega (arith, h.weights, sum_set weight one from other left_view there,
-            sum_set weight state.views id view both at);
+        limit = omega (
+          arith,
+          h.limit,
+          sum_set refusals one from other left_view there,
+          sum_set refusals state.views id view both at,
+        );
+        weights = omega (
+          arith,
+          h.weights,
+          sum_set weight one from other left_view there,
+          sum_set weight state.views id view both at,
+        );
         few = h.few;
       }

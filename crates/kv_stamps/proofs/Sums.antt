@@ -25,8 +25,12 @@ sum_set f (x ∷ xs) zero old new at =
     let same : f x ≡ f old = ap f (some-injective x old at) in
     omega (arith, sum_by-cons f x xs, sum_by-cons f new xs)
 sum_set f (x ∷ xs) (suc id) old new at =
-    omega (arith, sum_set f xs id old new at, sum_by-cons f x xs,
-        sum_by-cons f x (set xs id new))
+    omega (
+      arith,
+      sum_set f xs id old new at,
+      sum_by-cons f x xs,
+      sum_by-cons f x (set xs id new),
+    )
 
 -- a sum is at least what one view gives
 pub sum_has : (f : View → ℕ) (views : List View) (id : ℕ) (view : View)

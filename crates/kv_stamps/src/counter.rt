@@ -54,11 +54,7 @@ impl Stamps {
 
     /// A counter whose next number is `start`, and so many seats, each of which has seen it. The
     /// start is 1 to 2^62, the number of seats 1 to 24.
-    pub fn new(
-        alloc: Global,
-        start: u64,
-        seats: u32,
-    ) -> Result<(Stamps, Vec<StampSeat>), NoMemory>
+    pub fn new(alloc: Global, start: u64, seats: u32) -> Result<(Stamps, Vec<StampSeat>), NoMemory>
         requires start { (1 ≤ start) × (start ≤ 2 ^ 62) }
         requires seats { (1 ≤ seats) × (seats ≤ 24) }
         ensures count { IfOk result (λ r. vec_len r.1 ≡ seats) }
@@ -99,7 +95,7 @@ impl Stamps {
         // Met at an earlier draw, or now.
         ensures err { IfErr result (λ spent.
             ((first_spent seat.old.view.spent ≡ Some spent.number)
-                × (seat.new.view ≡ seat.old.view))
+            × (seat.new.view ≡ seat.old.view))
             ⊎ ((seat.old.view.spent ≡ []) × Spends n seat.old.view spent.number seat.new.view)) }
         ensures kept { IfErr result (λ spent.
             first_spent seat.new.view.spent ≡ Some spent.number) }

@@ -1,4 +1,4 @@
-ghost use Rattle.std.specs.Prelude.{◌≡◌, ℕ, ◌+◌, ◌^◌, ◌<◌, ◌≤◌, ◌==◌, count_by, IfOk};
+ghost use Rattle.std.specs.Prelude.{◌≡◌, ℕ, ◌+◌, ◌^◌, ◌<◌, ◌≤◌, ◌==◌, [], All, count_by, IfOk};
 ghost use Rattle.kv_stamps.specs.Seats.{new_seat};
 
 mod drawer;
@@ -6,7 +6,7 @@ mod drawer;
 use crate::{StampSeat, Stamps, StampsSpent};
 use drawer::Drawer;
 use kv_base::NoMemory;
-use std::alloc::Global;
+use std::alloc::{AllocError, Global};
 use std::process::Abort;
 use std::thread;
 use std::thread::Threads;
@@ -31,7 +31,11 @@ fn two_seats_draw_in_turn(rt: HostRuntime) {
     assert_eq!(rt; stamps.draw(&mut first, 1), Ok(6), "6");
     assert_eq!(rt; stamps.look(&mut first), 7);
     stamps.join(&mut second, first);
-    assert_eq!(rt; stamps.draw(&mut second, 512), Ok(7), "a joined seat draws on");
+    assert_eq!(rt;
+        stamps.draw(&mut second, 512),
+        Ok(7),
+        "a joined seat draws on"
+    );
     assert_eq!(rt; stamps.look(&mut second), 519);
 }
 
@@ -51,22 +55,42 @@ fn a_range_past_the_last_stamp_is_refused_for_good(rt: HostRuntime) {
     // The last 511 stamps are 2^62 - 511 to 2^62 - 1.
     let last = (1 << 62) - 511;
     let (stamps, mut first, mut second) = pair(&rt, rt.alloc(), last);
-    assert_eq!(rt; stamps.draw(&mut first, 512), Err(StampsSpent { number: last }));
-    assert_eq!(rt; stamps.draw(&mut first, 1), Err(StampsSpent { number: last }), "again");
+    assert_eq!(rt;
+        stamps.draw(&mut first, 512),
+        Err(StampsSpent { number: last })
+    );
+    assert_eq!(rt;
+        stamps.draw(&mut first, 1),
+        Err(StampsSpent { number: last }),
+        "again"
+    );
     assert_eq!(rt; stamps.look(&mut first), 1 << 62, "not 2^62 + 1");
 
     // The other seat meets it at a number of its own, and a joined seat keeps the first.
     let passed = (1 << 62) + 1;
-    assert_eq!(rt; stamps.draw(&mut second, 1), Err(StampsSpent { number: passed }));
+    assert_eq!(rt;
+        stamps.draw(&mut second, 1),
+        Err(StampsSpent { number: passed })
+    );
     stamps.join(&mut second, first);
-    assert_eq!(rt; stamps.draw(&mut second, 1), Err(StampsSpent { number: passed }));
+    assert_eq!(rt;
+        stamps.draw(&mut second, 1),
+        Err(StampsSpent { number: passed })
+    );
 
     // Each of the 511 is drawn.
     let (stamps, mut first, mut second) = pair(&rt, rt.alloc(), last);
     assert_eq!(rt; stamps.draw(&mut first, 511), Ok(last));
-    assert_eq!(rt; stamps.draw(&mut second, 1), Err(StampsSpent { number: 1 << 62 }));
+    assert_eq!(rt;
+        stamps.draw(&mut second, 1),
+        Err(StampsSpent { number: 1 << 62 })
+    );
     stamps.join(&mut first, second);
-    assert_eq!(rt; stamps.draw(&mut first, 1), Err(StampsSpent { number: 1 << 62 }), "joined");
+    assert_eq!(rt;
+        stamps.draw(&mut first, 1),
+        Err(StampsSpent { number: 1 << 62 }),
+        "joined"
+    );
 }
 
 #[test]
@@ -80,7 +104,40 @@ fn twenty_four_seats_draw_one_after_the_other(rt: HostRuntime) {
     }
 }
 
-// The first number of each range that so many threads drew beside each other, and the caller.
+// Joins what threads drew to what this one drew.
+fn join_all(
+    stamps: &Stamps,
+    mut all: Drawer,
+    drawers: Vec<Result<Drawer, NoMemory>>,
+) -> Result<Drawer, NoMemory>
+    requires own { all.seat.counter ≡ stamps.now }
+    requires others { All (λ r. IfOk r (λ drawer. drawer.seat.counter ≡ stamps.now)) drawers.items }
+    ensures { IfOk result (λ drawer. drawer.seat.counter ≡ stamps.now) }
+{
+    for drawer in drawers {
+        all = all.join(stamps, drawer?)?;
+    }
+    Ok(all)
+}
+
+// What a thread for each seat drew.
+fn draw_all<R: Threads + Sync>(
+    rt: &R,
+    alloc: Global,
+    stamps: &Stamps,
+    seats: Vec<StampSeat>,
+    draws: u32,
+) -> Result<Vec<Result<Drawer, NoMemory>>, AllocError>
+    requires counter { All (λ seat. seat.counter ≡ stamps.now) seats.items }
+    requires new { All (λ seat. seat.view.drawn ≡ []) seats.items }
+    ensures { IfOk result (λ drawers.
+        All (λ r. IfOk r (λ drawer. drawer.seat.counter ≡ stamps.now)) drawers.items) }
+{
+    thread::map_vec(rt, seats, &|seat| Drawer::draw(stamps, alloc, seat, draws))
+}
+
+// The first number of each range that threads drew beside each other, one for each seat but the
+// last, and then this thread with the last.
 fn drawn_by_threads<R: Threads + Sync>(
     rt: &R,
     alloc: Global,
@@ -92,17 +149,12 @@ fn drawn_by_threads<R: Threads + Sync>(
         (number : ℕ) → count_by (λ first. first == number) numbers.items ≤ 1) }
 {
     let (stamps, mut seats) = Stamps::new(alloc, 1, seats)?;
-    let Some(own) = seats.pop() else {
+    let Some(last) = seats.pop() else {
         return Ok(Vec::new(alloc));
     };
-    let shared = &stamps;
-    let drawers = thread::map_vec(rt, seats, &|seat| {
-        Drawer::draw(shared, alloc, seat, draws)
-    })?;
-    let mut all = Drawer::draw(&stamps, alloc, own, draws)?;
-    for drawer in drawers {
-        all = all.join(&stamps, drawer?)?;
-    }
+    let drawers = draw_all(rt, alloc, &stamps, seats, draws)?;
+    let own = Drawer::draw(&stamps, alloc, last, draws)?;
+    let all = join_all(&stamps, own, drawers)?;
     Ok(all.into_numbers(&stamps))
 }
 
@@ -112,6 +164,10 @@ fn threads_draw_no_number_twice(rt: HostRuntime) {
     assert_eq!(rt; numbers.len(), 500_000);
     numbers.sort().expect(&rt, "memory");
     for i in 1..numbers.len() {
-        assert!(rt; numbers[i - 1] < numbers[i], "{} is there twice", numbers[i]);
+        assert!(rt;
+            numbers[i - 1] < numbers[i],
+            "{} is there twice",
+            numbers[i]
+        );
     }
 }

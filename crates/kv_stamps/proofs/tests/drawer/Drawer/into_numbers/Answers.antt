@@ -16,14 +16,17 @@ has_first start number r of = grind (arith, nat_tests)
 -- so ranges have no fewer of a number than they begin with
 firsts-le : (start number : ℕ) (ranges : List Range) → All (IsOfStamps start) ranges
     → count_by (λ first. first == number) (map (λ (r : Range). r.first) ranges)
-        ≤ among number ranges
+    ≤ among number ranges
 firsts-le start number [] all = omega arith
 firsts-le start number (r ∷ ranges) all =
     let firsts : List ℕ = map (λ (r : Range). r.first) ranges in
-    omega (arith, has_first start number r (All-head (IsOfStamps start) r ranges all),
-        firsts-le start number ranges (All-tail (IsOfStamps start) r ranges all),
-        sum_by-cons (within number) r ranges,
-        sum_by-cons (λ first. cond (first == number) 1 0) r.first firsts)
+    omega (
+      arith,
+      has_first start number r (All-head (IsOfStamps start) r ranges all),
+      firsts-le start number ranges (All-tail (IsOfStamps start) r ranges all),
+      sum_by-cons (within number) r ranges,
+      sum_by-cons (λ first. cond (first == number) 1 0) r.first firsts,
+    )
 
 pub returns : goal.returns
 returns c number =

@@ -9,7 +9,7 @@ use lib.ListN.{get_elem?}
 use Rattle.kv_stamps.specs.declared.view.Origin.{Origin}
 use Rattle.kv_stamps.specs.declared.view.View.{View}
 use Rattle.kv_stamps.specs.Ranges.{below, between}
-use Rattle.kv_stamps.specs.Rule.{covers, refusals, weight, left_view, IsLive, IsSeat, Holds, IsAll}
+use Rattle.kv_stamps.specs.Rule.{times_in, refusals, weight, left_view, IsLive, IsSeat, PartitionsNumbers, HasAllNumbers}
 use Rattle.kv_stamps.specs.Rule.{origin_of}
 use Rattle.kv_stamps.proofs.RangeLemmas.{between-below, between-le}
 use Rattle.kv_stamps.proofs.Sums.{all_at, sum_set, sum_has, sum_le, sum_alone, GivesByWeight}
@@ -23,6 +23,7 @@ IsSeat-later origin a b view le seat = record {
         (seat.live has).0,
         record {
           drawn = l.drawn;
+          below = l.below;
           spent = l.spent;
           started = l.started;
           seen = omega (arith, l.seen);
@@ -45,21 +46,21 @@ live_seat origin next view same live = record {
 
 -- the view at a place, where it has a weight
 pub live_at : (origin : Origin) (words : List ℕ) (views : List View) (id : ℕ) (view : View)
-    (h : Holds origin words views) → get_elem? views id ≡ some view → 1 ≤ view.weight
+    (h : PartitionsNumbers origin words views) → get_elem? views id ≡ some view → 1 ≤ view.weight
     → (origin_of view ≡ origin) × IsLive h.next view
 live_at origin words views id view h at has =
     (all_at (IsSeat origin h.next) views id view at h.seats).live has
 
 -- the view of one seat changes, and the next number doesn't fall
 pub changes : (origin : Origin) (words : List ℕ) (views : List View) (id : ℕ) (old new : View)
-    (next : ℕ) (h : Holds origin words views)
+    (next : ℕ) (h : PartitionsNumbers origin words views)
     → get_elem? views id ≡ some old → h.next ≤ next → IsSeat origin next new
     → ((number : ℕ)
-    → covers number new + below number h.next ≡ covers number old + below number next)
+    → times_in number new + below number h.next ≡ times_in number old + below number next)
     → new.weight ≡ old.weight
     → ((others : ℕ) → h.next ≤ 2 ^ 62 + 512 * (others + refusals old)
     → next ≤ 2 ^ 62 + 512 * (others + refusals new))
-    → Holds origin (next ∷ []) (set views id new)
+    → PartitionsNumbers origin (next ∷ []) (set views id new)
 changes origin words views id old new next h at le seat moved same room =
     let others : ℕ = sum_by refusals (set views id left_view) in
     let without : others + refusals old ≡ sum_by refusals views + 0 =
@@ -73,7 +74,7 @@ changes origin words views id old new next h at le seat moved same room =
       numbers = λ number.
           let start = between-below number origin.start h.next h.start in
           let end = between-below number origin.start next (omega (arith, h.start)) in
-          omega (arith, h.numbers number, moved number, sum_set (covers number) views id old new at);
+          omega (arith, h.numbers number, moved number, sum_set (times_in number) views id old new at);
       start = omega (arith, h.start);
       seats = All-set (IsSeat origin next) views id new seat
           (All-weaker (IsSeat origin h.next) (IsSeat origin next)
@@ -94,7 +95,7 @@ refusals-le-weight origin next view seat =
 
 -- the next number is far below the end of its type
 pub next-le : (origin : Origin) (words : List ℕ) (views : List View)
-    (h : Holds origin words views) → h.next ≤ 2 ^ 62 + 512 * 24
+    (h : PartitionsNumbers origin words views) → h.next ≤ 2 ^ 62 + 512 * 24
 next-le origin words views h =
     let fewer = sum_le refusals weight views (All-weaker (IsSeat origin h.next)
     (λ view. refusals view ≤ weight view) (refusals-le-weight origin h.next) views h.seats) in
@@ -106,10 +107,10 @@ by_weight : (f : View → ℕ) (origin : Origin) (next : ℕ) → f left_view �
 by_weight f origin next nothing view seat none = rw (seat.left none) nothing
 
 -- a seat with the weight of all has all numbers
-pub is_all : (origin : Origin) (words : List ℕ) (views : List View) (id : ℕ) (view : View)
-    (h : Holds origin words views) → get_elem? views id ≡ some view → 1 ≤ view.weight
-    → view.weight ≡ view.seats → IsAll h.next view
-is_all origin words views id view h at has whole =
+pub has_all_numbers : (origin : Origin) (words : List ℕ) (views : List View) (id : ℕ) (view : View)
+    (h : PartitionsNumbers origin words views) → get_elem? views id ≡ some view → 1 ≤ view.weight
+    → view.weight ≡ view.seats → HasAllNumbers h.next view
+has_all_numbers origin words views id view h at has whole =
     let same = (live_at origin words views id view h at has).0 in
     let start : view.start ≡ origin.start = ap (λ (o : Origin). o.start) same in
     let seats : view.seats ≡ origin.seats = ap (λ (o : Origin). o.seats) same in
@@ -119,7 +120,7 @@ is_all origin words views id view h at has whole =
     (by_weight f origin h.next nothing) views h.seats in
     record {
       numbers = λ number.
-          let alone = sum_alone (covers number) views id view at (gives (covers number) refl) sum in
+          let alone = sum_alone (times_in number) views id view at (gives (times_in number) refl) sum in
           let moved : between number view.start h.next ≡ between number origin.start h.next =
           ap (λ (s : ℕ). between number s h.next) start in
           omega (arith, h.numbers number);
@@ -129,13 +130,13 @@ is_all origin words views id view h at has whole =
     }
 
 -- no number is twice in one seat
-pub covers-le : (origin : Origin) (words : List ℕ) (views : List View) (id : ℕ) (view : View)
-    (h : Holds origin words views) → get_elem? views id ≡ some view
-    → (number : ℕ) → covers number view ≤ 1
-covers-le origin words views id view h at number =
+pub times_in-le : (origin : Origin) (words : List ℕ) (views : List View) (id : ℕ) (view : View)
+    (h : PartitionsNumbers origin words views) → get_elem? views id ≡ some view
+    → (number : ℕ) → times_in number view ≤ 1
+times_in-le origin words views id view h at number =
     omega (
       arith,
       h.numbers number,
-      sum_has (covers number) views id view at,
+      sum_has (times_in number) views id view at,
       between-le number origin.start h.next,
     )

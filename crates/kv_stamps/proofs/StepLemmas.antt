@@ -15,30 +15,30 @@ use Rattle.atomic_table.proofs.Lists.{at_set}
 use Rattle.kv_stamps.specs.declared.view.Origin.{Origin}
 use Rattle.kv_stamps.specs.declared.view.View.{View}
 use Rattle.kv_stamps.specs.Ranges.{range, below, within, EndsBy, IsOfStamps, PassesLimit}
-use Rattle.kv_stamps.specs.Rule.{covers, refusals, weight, left_view, IsLive, IsSeat, Holds}
+use Rattle.kv_stamps.specs.Rule.{times_in, refusals, weight, left_view, IsLive, IsSeat, PartitionsNumbers}
 use Rattle.kv_stamps.specs.Steps.{seen_view, Looks, gap_to, raised_view, Raises, drawn_view, Draws}
 use Rattle.kv_stamps.specs.Steps.{spent_view, Spends, kept_view, split_view, joined_view}
 use Rattle.kv_stamps.specs.Steps.{HasNoNumberTwice}
 use Rattle.kv_stamps.proofs.RangeLemmas.{within-range, among-gap_to, gap_to-EndsBy, EndsBy-later}
-use Rattle.kv_stamps.proofs.RuleLemmas.{live_seat, live_at, changes, next-le, is_all, covers-le}
+use Rattle.kv_stamps.proofs.RuleLemmas.{live_seat, live_at, changes, next-le, has_all_numbers, times_in-le}
 use Rattle.kv_stamps.proofs.Sums.{sum_set}
 
 module _ {S : Type 0} (origin : Origin) where
   -- the rule, as a table sees it
   abbrev pub Kept : State S View → Type 0
-  Kept state = Holds origin state.words state.views
+  Kept state = PartitionsNumbers origin state.words state.views
 
   -- what a step owes at the number that it finds
   goes : (state : State S View) (id : ℕ) (me : Me S View) (f : ℕ → ℕ)
       (then : ℕ → Me S View → Type 0) (h : Kept state) (new : View)
-      → Holds origin (f h.next ∷ []) (set state.views id new) → then h.next (new, me.1)
+      → PartitionsNumbers origin (f h.next ∷ []) (set state.views id new) → then h.next (new, me.1)
       → (w : View) × (a : Act S) × Valid state.homes me.1 a
-      × Holds origin (slice_set state.words 0 (f (slice_index state.words 0)))
+      × PartitionsNumbers origin (slice_set state.words 0 (f (slice_index state.words 0)))
       (slice_set state.views id w)
       × then (slice_index state.words 0) (w, carried_after me.1 a)
   goes state id me f then h new kept told =
       let P : List ℕ → Type 0 = λ words. (w : View) × (a : Act S) × Valid state.homes me.1 a
-      × Holds origin (slice_set words 0 (f (slice_index words 0))) (slice_set state.views id w)
+      × PartitionsNumbers origin (slice_set words 0 (f (slice_index words 0))) (slice_set state.views id w)
       × then (slice_index words 0) (w, carried_after me.1 a) in
       subst P (sym h.word) (new, keeps, tt, kept, told)
 
@@ -52,6 +52,7 @@ module _ {S : Type 0} (origin : Origin) where
       let new : View = seen_view h.next old in
       let live : IsLive h.next new = record {
         drawn = l.drawn;
+        below = EndsBy-later old.seen h.next old.drawn l.seen l.below;
         spent = l.spent;
         started = omega (arith, l.started, l.seen);
         seen = le_refl h.next;
@@ -68,9 +69,9 @@ module _ {S : Type 0} (origin : Origin) where
           view = refl;
           later = l.seen;
           rule = live;
-          once = covers-le origin state.words state.views id old h at;
+          once = times_in-le origin state.words state.views id old h at;
           all = λ whole.
-              let a = is_all origin state.words state.views id old h at has whole in
+              let a = has_all_numbers origin state.words state.views id old h at has whole in
               record { numbers = a.numbers; limit = a.limit };
         },
       )
@@ -83,7 +84,7 @@ module _ {S : Type 0} (origin : Origin) where
       goes state id me (λ next. next) (λ next new. (new ≡ me) × HasNoNumberTwice me.0) h me.0
       (changes origin state.words state.views id me.0 me.0 h.next h at (le_refl h.next)
       (live_seat origin h.next me.0 was.0 was.1) (λ number. refl) refl (λ others le. le))
-      (refl, covers-le origin state.words state.views id me.0 h at)
+      (refl, times_in-le origin state.words state.views id me.0 h at)
 
   pub raises : (slots id : ℕ) (me : Me S View) (to : ℕ) → 1 ≤ me.0.weight → to ≤ 2 ^ 62
       → Allows Kept slots id me 0 (λ next. max next to)
@@ -96,6 +97,7 @@ module _ {S : Type 0} (origin : Origin) where
       let new : View = raised_view to h.next old in
       let live : IsLive next new = record {
         drawn = l.drawn;
+        below = EndsBy-later old.seen next old.drawn (omega (arith, l.seen)) l.below;
         spent = l.spent;
         started = omega (arith, l.started, l.seen);
         seen = le_refl next;
@@ -134,15 +136,16 @@ module _ {S : Type 0} (origin : Origin) where
       let fits : (next + count) % 2 ^ 64 ≡ next + count = mod-eq_of_lt (omega arith) in
       let started : old.start ≤ next = omega (arith, l.started, l.seen) in
       let raised : old.raised ≤ next + count = omega (arith, l.raised) in
+      let under = EndsBy-later old.seen (next + count) old.drawn (omega (arith, l.seen)) l.below in
       let step : (new : View) → IsLive (next + count) new → new.weight ≡ old.weight
       → IsSeat origin (next + count) new
-      → ((number : ℕ) → covers number new + below number next
-      ≡ covers number old + below number (next + count))
+      → ((number : ℕ) → times_in number new + below number next
+      ≡ times_in number old + below number (next + count))
       → ((others : ℕ) → next ≤ 2 ^ 62 + 512 * (others + refusals old)
       → next + count ≤ 2 ^ 62 + 512 * (others + refusals new))
-      → Holds origin ((next + count) % 2 ^ 64 ∷ []) (set state.views id new) =
+      → PartitionsNumbers origin ((next + count) % 2 ^ 64 ∷ []) (set state.views id new) =
       λ new live same seat moved room.
-      subst (λ (n : ℕ). Holds origin (n ∷ []) (set state.views id new)) (sym fits)
+      subst (λ (n : ℕ). PartitionsNumbers origin (n ∷ []) (set state.views id new)) (sym fits)
       (changes origin state.words state.views id old new (next + count) h at (omega arith)
       seat moved same room) in
       let then : ℕ → Me S View → Type 0 = λ next new. (new.1 ≡ me.1)
@@ -155,6 +158,7 @@ module _ {S : Type 0} (origin : Origin) where
       length-append old.spent (range next count ∷ []) in
       let live : IsLive (next + count) new = record {
         drawn = l.drawn;
+        below = under;
         spent = All-push PassesLimit old.spent (range next count) l.spent (past, few);
         started = omega arith;
         seen = le_refl (next + count);
@@ -180,6 +184,7 @@ module _ {S : Type 0} (origin : Origin) where
       let live : IsLive (next + count) new = record {
         drawn = All-push (IsOfStamps old.start) old.drawn (range next count) l.drawn
             (started, some', fit);
+        below = All-push (EndsBy (next + count)) old.drawn (range next count) under (le_refl (next + count));
         spent = l.spent;
         started = omega arith;
         seen = le_refl (next + count);
@@ -219,6 +224,7 @@ module _ {S : Type 0} (origin : Origin) where
       let no_runs : length view.spent ≡ 0 = ap length none in
       let kept : IsLive h.next left = record {
         drawn = l.drawn;
+        below = l.below;
         spent = l.spent;
         started = l.started;
         seen = l.seen;
@@ -229,6 +235,7 @@ module _ {S : Type 0} (origin : Origin) where
       } in
       let fresh : IsLive h.next right = record {
         drawn = All-nil (IsOfStamps view.start);
+        below = All-nil (EndsBy view.seen);
         spent = All-nil PassesLimit;
         started = l.started;
         seen = l.seen;
@@ -244,8 +251,8 @@ module _ {S : Type 0} (origin : Origin) where
         numbers = λ number. omega (
           arith,
           h.numbers number,
-          sum_by_push (covers number) views right,
-          sum_set (covers number) state.views id view left at,
+          sum_by_push (times_in number) views right,
+          sum_set (times_in number) state.views id view left at,
         );
         start = h.start;
         seats = All-push P views right
@@ -282,9 +289,11 @@ module _ {S : Type 0} (origin : Origin) where
       let longer : length both.spent ≡ length view.spent + length other.spent =
       length-append view.spent other.spent in
       let raised : ℕ = max view.raised other.raised in
+      let seen : ℕ = max view.seen other.seen in
       let live : IsLive h.next both = record {
         drawn = All-append (IsOfStamps view.start) view.drawn other.drawn l.drawn
             (subst (λ (s : ℕ). All (IsOfStamps s) other.drawn) starts m.drawn);
+        below = All-append (EndsBy seen) view.drawn other.drawn (EndsBy-later view.seen seen view.drawn (omega arith) l.below) (EndsBy-later other.seen seen other.drawn (omega arith) m.below);
         spent = All-append PassesLimit view.spent other.spent l.spent m.spent;
         started = omega (arith, l.started);
         seen = omega (arith, l.seen, m.seen);
@@ -307,8 +316,8 @@ module _ {S : Type 0} (origin : Origin) where
         numbers = λ number. omega (
           arith,
           h.numbers number,
-          sum_set (covers number) one from other left_view there,
-          sum_set (covers number) state.views id view both at,
+          sum_set (times_in number) one from other left_view there,
+          sum_set (times_in number) state.views id view both at,
           sum_by-append (within number) view.drawn other.drawn,
           sum_by-append (within number) view.gaps other.gaps,
           sum_by-append (within number) view.spent other.spent,

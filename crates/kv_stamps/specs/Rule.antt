@@ -5,8 +5,8 @@ use Rattle.kv_stamps.specs.declared.view.View.{View}
 use Rattle.kv_stamps.specs.Ranges.{among, between, EndsBy, IsOfStamps, PassesLimit}
 
 -- in how many of a seat's ranges, gaps and runs the number is
-abbrev pub covers : ℕ → View → ℕ
-covers number view =
+abbrev pub times_in : ℕ → View → ℕ
+times_in number view =
     among number view.drawn + (among number view.gaps + among number view.spent)
 
 -- how many StampsSpent a seat met
@@ -34,23 +34,16 @@ first_view origin = record {
   spent = [];
 }
 
--- the view that a seat leaves which was joined to another
+-- the view that a seat leaves which was joined to another: one of no counter, without weight
 abbrev pub left_view : View
-left_view = record {
-  start = 0;
-  seats = 0;
-  weight = 0;
-  seen = 0;
-  raised = 0;
-  drawn = [];
-  gaps = [];
-  spent = [];
-}
+left_view = first_view (record { start = 0; seats = 0 })
 
 -- the rule as it speaks of one seat
 pub record IsLive (next : ℕ) (view : View) : Type 0 where
-  -- what it drew are stamps; each run of a StampsSpent that it met passes the last stamp
+  -- what it drew are stamps, below what it has seen
   pub drawn : All (IsOfStamps view.start) view.drawn
+  pub below : All (EndsBy view.seen) view.drawn
+  -- each run of a StampsSpent that it met passes the last stamp
   pub spent : All PassesLimit view.spent
   -- the next number is at least each that was seen or raised to
   pub started : view.start ≤ view.seen
@@ -68,12 +61,12 @@ pub record IsSeat (origin : Origin) (next : ℕ) (view : View) : Type 0 where
   pub left : view.weight ≡ 0 → view ≡ left_view
 
 -- the rule: what holds of the counter between any two steps
-pub record Holds (origin : Origin) (words : List ℕ) (views : List View) : Type 0 where
+pub record PartitionsNumbers (origin : Origin) (words : List ℕ) (views : List View) : Type 0 where
   pub next : ℕ
   pub word : words ≡ next ∷ []
   -- each number from the start up to the next one is in just one range, gap or run of a seat,
   -- and these have no other numbers
-  pub numbers : (number : ℕ) → sum_by (covers number) views ≡ between number origin.start next
+  pub numbers : (number : ℕ) → sum_by (times_in number) views ≡ between number origin.start next
   pub start : origin.start ≤ next
   pub seats : All (IsSeat origin next) views
   -- the next number passes the limit only by what StampsSpent took
@@ -84,6 +77,6 @@ pub record Holds (origin : Origin) (words : List ℕ) (views : List View) : Type
 
 -- what the rule says of a seat that has the weight of all: its ranges, gaps and runs have each
 -- number from the start up to the next one just once, and no other
-pub record IsAll (next : ℕ) (view : View) : Type 0 where
-  pub numbers : (number : ℕ) → covers number view ≡ between number view.start next
+pub record HasAllNumbers (next : ℕ) (view : View) : Type 0 where
+  pub numbers : (number : ℕ) → times_in number view ≡ between number view.start next
   pub limit : next ≤ 2 ^ 62 + 512 * length view.spent

@@ -3,6 +3,7 @@ use Rattle.std.specs.Prelude.{ℕ, List, [], ◌∷◌, Option, Some, None}
 use Rattle.atomic_table.specs.Seated.{TableId}
 use Rattle.kv_stamps.specs.declared.view.Range.{Range}
 use Rattle.kv_stamps.specs.declared.view.View.{View}
+use Rattle.kv_stamps.specs.Rule.{first_view}
 
 -- a seat: the counter that it is one of, and what it knows
 pub record Seat : Type 0 where
@@ -18,14 +19,5 @@ first_spent (r ∷ _) = Some r.first
 abbrev pub new_seat : TableId → ℕ → ℕ → Seat
 new_seat counter start seats = record {
   counter = counter;
-  view = record {
-    start = start;
-    seats = seats;
-    weight = 1;
-    seen = start;
-    raised = 0;
-    drawn = [];
-    gaps = [];
-    spent = [];
-  };
+  view = record (first_view (record { start = start; seats = seats })) { weight = 1 };
 }

@@ -4,11 +4,11 @@ use Rattle.std.specs.Prelude.{List, [], ◌∷◌, ◌++◌, if◌then◌else◌
 use Rattle.kv_stamps.specs.declared.view.Range.{Range}
 use Rattle.kv_stamps.specs.declared.view.View.{View}
 use Rattle.kv_stamps.specs.Ranges.{range}
-use Rattle.kv_stamps.specs.Rule.{covers, IsLive, IsAll}
+use Rattle.kv_stamps.specs.Rule.{times_in, origin_of, first_view, IsLive, HasAllNumbers}
 
 -- no number is twice in a seat's ranges, gaps and runs
 abbrev pub HasNoNumberTwice : View → Type 0
-HasNoNumberTwice view = (number : ℕ) → covers number view ≤ 1
+HasNoNumberTwice view = (number : ℕ) → times_in number view ≤ 1
 
 -- the view after the next number was seen
 abbrev pub seen_view : ℕ → View → View
@@ -21,7 +21,7 @@ pub record Looks (old : View) (next : ℕ) (new : View) : Type 0 where
   pub later : old.seen ≤ next
   pub rule : IsLive next new
   pub once : HasNoNumberTwice new
-  pub all : new.weight ≡ new.seats → IsAll next new
+  pub all : new.weight ≡ new.seats → HasAllNumbers next new
 
 -- the numbers that a raise passes over: from the next one up to this, if there are any
 abbrev pub gap_to : ℕ → ℕ → List Range
@@ -76,22 +76,11 @@ kept_view view = record view { weight = view.weight - 1 }
 
 -- a seat that is split off: it has seen what the old one saw, and has weight 1
 abbrev pub split_view : View → View
-split_view view = record {
-  start = view.start;
-  seats = view.seats;
-  weight = 1;
-  seen = view.seen;
-  raised = 0;
-  drawn = [];
-  gaps = [];
-  spent = [];
-}
+split_view view = record (first_view (origin_of view)) { weight = 1; seen = view.seen }
 
 -- a seat that another was joined to: what both have, and of what was seen the greater
 abbrev pub joined_view : View → View → View
-joined_view view other = record {
-  start = view.start;
-  seats = view.seats;
+joined_view view other = record view {
   weight = view.weight + other.weight;
   seen = max view.seen other.seen;
   raised = max view.raised other.raised;

@@ -46,9 +46,9 @@ pub struct Origin {
 pub struct Rule;
 
 impl TableRule<(), View, Origin> for Rule {
-    ghost use Rattle.kv_stamps.specs.Rule.{Holds, first_view};
+    ghost use Rattle.kv_stamps.specs.Rule.{PartitionsNumbers, first_view};
 
-    ghost holds = { λ origin state. Holds origin state.words state.views };
+    ghost holds = { λ origin state. PartitionsNumbers origin state.words state.views };
 
     ghost first = { first_view };
 }

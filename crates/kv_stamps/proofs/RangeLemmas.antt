@@ -1,9 +1,10 @@
 -- On ranges of numbers.
-use Rattle.std.proofs.Common.{◌≡◌, ℕ, ◌+◌, ◌-◌, ◌<◌, ◌≤◌, max, List, [], ◌∷◌, arith, ap, ⊎_elim}
+use Rattle.std.proofs.Common.{◌≡◌, ℕ, ◌+◌, ◌-◌, ◌<◌, ◌≤◌, max, List, [], ◌++◌, arith, ap}
+use Rattle.std.proofs.Common.{⊎_elim}
 use Rattle.std.specs.Prelude.{All}
 use Rattle.std.proofs.lemmas.Bool.{cases_lt, lt-ltb, le-ltb}
 use Rattle.std.proofs.lemmas.Bool.Decides.{nat_tests}
-use Rattle.std.proofs.lemmas.List.Elements.{All-nil, All-cons, All-weaker}
+use Rattle.std.proofs.lemmas.List.Elements.{All-nil, All-cons, All-append, All-weaker}
 use Rattle.kv_stamps.specs.declared.view.Range.{Range}
 use Rattle.kv_stamps.specs.Ranges.{range, below, between, within, among, EndsBy}
 use Rattle.kv_stamps.specs.Steps.{gap_to}
@@ -40,9 +41,9 @@ among-gap_to number to next =
     (cases_lt next to)
 
 -- the gap of a raise ends at or below what was raised to
-pub gap_to-EndsBy : (raised to next : ℕ) → All (EndsBy (max raised to)) (gap_to to next)
-gap_to-EndsBy raised to next =
-    let P : Range → Type 0 = EndsBy (max raised to) in
+pub gap_to-EndsBy : (to next : ℕ) → All (EndsBy to) (gap_to to next)
+gap_to-EndsBy to next =
+    let P : Range → Type 0 = EndsBy to in
     ⊎_elim
     (λ (lt : next < to). rw (lt-ltb next to lt)
     (All-cons P (range next (to - next)) [] (omega arith) (All-nil P)))
@@ -53,3 +54,11 @@ gap_to-EndsBy raised to next =
 pub EndsBy-later : (a b : ℕ) (ranges : List Range) → a ≤ b → All (EndsBy a) ranges
     → All (EndsBy b) ranges
 EndsBy-later a b ranges le all = All-weaker (EndsBy a) (EndsBy b) (λ r h. omega arith) ranges all
+
+-- the ranges of two lists end by the greater of what each ends by
+pub EndsBy-append : (a b : ℕ) (ranges others : List Range) → All (EndsBy a) ranges
+    → All (EndsBy b) others → All (EndsBy (max a b)) (ranges ++ others)
+EndsBy-append a b ranges others all them =
+    All-append (EndsBy (max a b)) ranges others
+    (EndsBy-later a (max a b) ranges (omega arith) all)
+    (EndsBy-later b (max a b) others (omega arith) them)

@@ -1,18 +1,23 @@
 -- On the rule of the counter.
-use Rattle.std.proofs.Common.{◌≡◌, ◌≢◌, ◌⊎◌, ℕ, ◌+◌, ◌*◌, ◌^◌, ◌<◌, ◌≤◌, List, [], ◌∷◌, length, set}
+use Rattle.std.proofs.Common.{◌≡◌, ℕ, ◌+◌, ◌*◌, ◌^◌, ◌<◌, ◌≤◌, List, [], ◌∷◌, set}
 use Rattle.std.proofs.Common.{refl, ap, arith, ⊎_elim}
 use Rattle.std.specs.Prelude.{All, sum_by}
 use Rattle.std.proofs.lemmas.Bool.{cases_lt}
 use Rattle.std.proofs.lemmas.List.Elements.{All-set, All-weaker}
 use mathlib.Core.Option.{some}
 use lib.ListN.{get_elem?}
+use Rattle.atomic_table.specs.Table.{State}
 use Rattle.kv_stamps.specs.declared.view.Origin.{Origin}
 use Rattle.kv_stamps.specs.declared.view.View.{View}
 use Rattle.kv_stamps.specs.Ranges.{below, between}
-use Rattle.kv_stamps.specs.Rule.{times_in, refusals, weight, left_view, IsLive, IsSeat, PartitionsNumbers, HasAllNumbers}
-use Rattle.kv_stamps.specs.Rule.{origin_of}
+use Rattle.kv_stamps.specs.Rule.{times_in, refusals, weight, origin_of, left_view, IsLive, IsSeat}
+use Rattle.kv_stamps.specs.Rule.{PartitionsNumbers, HasAllNumbers}
 use Rattle.kv_stamps.proofs.RangeLemmas.{between-below, between-le}
 use Rattle.kv_stamps.proofs.Sums.{all_at, sum_set, sum_has, sum_le, sum_alone, GivesByWeight}
+
+-- the rule, as a table sees it
+abbrev pub Kept : {S : Type 0} → Origin → State S View → Type 0
+Kept origin state = PartitionsNumbers origin state.words state.views
 
 -- a seat stays one while the next number rises
 pub IsSeat-later : (origin : Origin) (a b : ℕ) (view : View) → a ≤ b → IsSeat origin a view
@@ -74,7 +79,8 @@ changes origin words views id old new next h at le seat moved same room =
       numbers = λ number.
           let start = between-below number origin.start h.next h.start in
           let end = between-below number origin.start next (omega (arith, h.start)) in
-          omega (arith, h.numbers number, moved number, sum_set (times_in number) views id old new at);
+          let sum = sum_set (times_in number) views id old new at in
+          omega (arith, h.numbers number, moved number);
       start = omega (arith, h.start);
       seats = All-set (IsSeat origin next) views id new seat
           (All-weaker (IsSeat origin h.next) (IsSeat origin next)
@@ -120,7 +126,8 @@ has_all_numbers origin words views id view h at has whole =
     (by_weight f origin h.next nothing) views h.seats in
     record {
       numbers = λ number.
-          let alone = sum_alone (times_in number) views id view at (gives (times_in number) refl) sum in
+          let all = gives (times_in number) refl in
+          let alone = sum_alone (times_in number) views id view at all sum in
           let moved : between number view.start h.next ≡ between number origin.start h.next =
           ap (λ (s : ℕ). between number s h.next) start in
           omega (arith, h.numbers number);

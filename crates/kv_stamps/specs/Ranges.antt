@@ -1,5 +1,5 @@
 -- Ranges of numbers, and which numbers they have.
-use Rattle.std.specs.Prelude.{◌≡◌, ℕ, ◌+◌, ◌^◌, ◌<◌, ◌≤◌, nat_lt, List, sum_by, if◌then◌else◌}
+use Rattle.std.specs.Prelude.{ℕ, ◌+◌, ◌^◌, ◌<◌, ◌≤◌, nat_lt, List, sum_by, if◌then◌else◌}
 use Rattle.kv_stamps.specs.declared.view.Range.{Range}
 
 -- so many numbers from the first on

@@ -1,5 +1,5 @@
 -- The rule of the counter, over its next number and the views of all seats that were made.
-use Rattle.std.specs.Prelude.{◌≡◌, ℕ, ◌+◌, ◌*◌, ◌^◌, ◌<◌, ◌≤◌, List, [], ◌∷◌, All, length, sum_by}
+use Rattle.std.specs.Prelude.{◌≡◌, ℕ, ◌+◌, ◌*◌, ◌^◌, ◌≤◌, List, [], ◌∷◌, All, length, sum_by}
 use Rattle.kv_stamps.specs.declared.view.Origin.{Origin}
 use Rattle.kv_stamps.specs.declared.view.View.{View}
 use Rattle.kv_stamps.specs.Ranges.{among, between, EndsBy, IsOfStamps, PassesLimit}

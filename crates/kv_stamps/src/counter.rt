@@ -70,8 +70,8 @@ impl Stamps {
         Ok((stamps, all))
     }
 
-    /// Raises the counter to `to`, at most 2^62, unless it is there or above. The seat's later draws
-    /// are at least `to`. Takes no memory.
+    /// Raises the counter to `to`, at most 2^62, unless it is there or above. The seat's later
+    /// draws are at least `to`. Takes no memory.
     pub fn raise(&self, seat: &mut StampSeat, to: u64)
         requires counter { seat.old.counter ≡ self.now }
         requires to { to ≤ 2 ^ 62 }
@@ -81,10 +81,10 @@ impl Stamps {
         let _found = self.table.shared.fetch_max::<Raise>(&mut seat.seat, 0, to);
     }
 
-    /// Draws `n` stamps, 1 to 512, and answers the first of them. They are at least each number that
-    /// the seat has seen or raised to, and no other draw gives one of them. `StampsSpent` exactly
-    /// where they would pass 2^62 - 1, now or at an earlier draw of this seat, whose number it then
-    /// has; the seat draws no more. Takes no memory.
+    /// Draws `n` stamps, 1 to 512, and answers the first of them. They are at least each number
+    /// that the seat has seen or raised to, and no other draw gives one of them. `StampsSpent`
+    /// exactly where they would pass 2^62 - 1, now or at an earlier draw of this seat, whose number
+    /// it then has: the seat draws no more. Takes no memory.
     pub fn draw(&self, seat: &mut StampSeat, n: u32) -> Result<u64, StampsSpent>
         requires counter { seat.old.counter ≡ self.now }
         requires n { (1 ≤ n) × (n ≤ 512) }

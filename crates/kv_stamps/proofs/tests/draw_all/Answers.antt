@@ -1,4 +1,4 @@
-use Rattle.std.proofs.Common.{◌≡◌, ap, ◌∙◌}
+use Rattle.std.proofs.Common.{ap, ◌∙◌}
 use Rattle.kv_stamps.specs.Seats.{Seat}
 use Rattle.kv_stamps.proofs.tests.draw_all.Goals as goal
 

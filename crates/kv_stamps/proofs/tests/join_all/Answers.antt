@@ -1,4 +1,4 @@
-use Rattle.std.proofs.Common.{◌≡◌, ◌∷◌, ◌∙◌, All, IfOk, rules}
+use Rattle.std.proofs.Common.{◌≡◌, ◌∷◌, ◌∙◌, IfOk, rules}
 use Rattle.std.proofs.lemmas.List.Elements.{All-rest}
 use Rattle.kv_stamps.proofs.tests.join_all.Goals as goal
 

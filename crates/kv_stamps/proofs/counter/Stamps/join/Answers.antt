@@ -1,5 +1,6 @@
 use Rattle.std.proofs.Common.{◌∙◌, arith}
-use Rattle.kv_stamps.proofs.StepLemmas.{joins, checks}
+use Rattle.kv_stamps.proofs.SeatLemmas.{joins}
+use Rattle.kv_stamps.proofs.StepLemmas.{checks}
 use Rattle.kv_stamps.proofs.counter.Stamps.join.Goals as goal
 
 pub join_seat-requires : goal.join_seat-requires

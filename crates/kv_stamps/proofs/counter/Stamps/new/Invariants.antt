@@ -1,4 +1,4 @@
-use Rattle.std.proofs.Common.{◌≡◌, ◌+◌, [], All, vec_len}
+use Rattle.std.proofs.Common.{◌≡◌, ◌+◌, All, vec_len}
 use Rattle.kv_stamps.specs.Seats.{Seat, new_seat}
 use Rattle.kv_stamps.proofs.counter.Stamps.new.Given as goal
 

@@ -1,5 +1,5 @@
 use Rattle.std.proofs.Common.{arith}
-use Rattle.kv_stamps.proofs.StepLemmas.{splits}
+use Rattle.kv_stamps.proofs.SeatLemmas.{splits}
 use Rattle.kv_stamps.proofs.counter.Stamps.split.Goals as goal
 
 pub split_seat-other-requires : goal.split_seat-other-requires

@@ -71,7 +71,8 @@ impl Stamps {
     }
 
     /// Raises the counter to `to`, at most 2^62, unless it is there or above. The seat's later
-    /// draws are at least `to`. Takes no memory.
+    /// draws are at least `to`; the numbers that were passed over are its gap, and nobody draws
+    /// them. Takes no memory.
     pub fn raise(&self, seat: &mut StampSeat, to: u64)
         requires counter { seat.old.counter ≡ self.now }
         requires to { to ≤ 2 ^ 62 }
@@ -116,7 +117,8 @@ impl Stamps {
         Err(StampsSpent { number: found })
     }
 
-    /// The next number, or 2^62 where it is above. The seat has then seen it. Takes no memory.
+    /// The next number, or 2^62 where it is above. The seat has then seen it; one to which all
+    /// others were joined knows where each number below it is. Takes no memory.
     pub fn look(&self, seat: &mut StampSeat) -> u64
         requires { seat.old.counter ≡ self.now }
         ensures counter { seat.new.counter ≡ seat.old.counter }
@@ -160,6 +162,7 @@ impl Stamps {
         self.table
             .shared
             .join_seat::<Divide>(&mut seat.seat, theirs);
+        // A proof knows the rule only at a step; this one tells that no number is twice.
         self.table.shared.load::<Check>(&mut seat.seat, 0);
         if seat.spent.is_none() {
             seat.spent = spent;

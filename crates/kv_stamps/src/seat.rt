@@ -3,7 +3,8 @@ use atomic_table::Seat;
 use std::marker::Model;
 
 /// One party's part of a counter: it knows what the party drew, raised to and saw, and keeps the
-/// number of the first `StampsSpent`. It may move to another thread.
+/// number of the first `StampsSpent`. It may move to another thread. One that is dropped is joined
+/// to no other, and what it knew is lost.
 #[derive(Drop)]
 pub struct StampSeat {
     pub(crate) seat: Seat<(), View>,

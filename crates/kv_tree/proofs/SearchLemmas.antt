@@ -11,7 +11,8 @@ use Rattle.kv_tree.specs.Subtree.{Pair}
 use Rattle.kv_tree.proofs.WeaveLemmas.{Past, Rises, yes, order, upto_greater}
 
 -- where a pair is before the key, so are those before it
-past_at : (q : List ℕ) (es : List Pair) (i n : ℕ) (d : Pair) → Rises es → i < length es → order q (get_or es i d).0 ≡ Greater → n ≤ i + 1
+past_at : (q : List ℕ) (es : List Pair) (i n : ℕ) (d : Pair) → Rises es → i < length es
+    → order q (get_or es i d).0 ≡ Greater → n ≤ i + 1
     → Past q (take n es)
 past_at q es i zero d s lt is le = tt
 past_at q [] i (suc n) d s lt is le = absurd (omega arith)
@@ -20,30 +21,43 @@ past_at q (e ∷ es) zero (suc (suc n)) d s lt is le = absurd (omega arith)
 past_at q (e ∷ es) (suc i) (suc n) d s lt is le =
     let rest = second (below_all order e.0 es) (is_sorted order es) s in
     let before : order e.0 (get_or es i d).0 ≡ Less =
-    below_get nat_list_cmp_total e.0 es i d (first (below_all order e.0 es) (is_sorted order es) s) (omega arith) in
-    (upto_greater q (get_or es i d).0 is e.0 before, past_at q es i n d rest (omega arith) is (omega arith))
+    below_get nat_list_cmp_total e.0 es i d (first (below_all order e.0 es) (is_sorted order es) s)
+    (omega arith) in (
+      upto_greater q (get_or es i d).0 is e.0 before,
+      past_at q es i n d rest (omega arith) is
+          (omega arith),
+    )
 
 -- one more, where one more is before the key
-pub more_past : (q : List ℕ) (es : List Pair) (i at more : ℕ) (d : Pair) → HasRisingKeys order es → i < length es → at ≤ i → more ≤ 1
-    → (more ≡ 1 → order q (get_or es i d).0 ≡ Greater) → Past q (take at es) → Past q (take (at + more) es)
-more_past q es i at zero d s lt le most is past = subst (λ (n : ℕ). Past q (take n es)) (omega arith) past
-more_past q es i at (suc zero) d s lt le most is past = past_at q es i (at + 1) d (yes _ s) lt (is refl) (omega arith)
+pub more_past : (q : List ℕ) (es : List Pair) (i at more : ℕ) (d : Pair) → HasRisingKeys order es
+    → i < length es → at ≤ i → more ≤ 1
+    → (more ≡ 1 → order q (get_or es i d).0 ≡ Greater) → Past q (take at es)
+    → Past q (take (at + more) es)
+more_past q es i at zero d s lt le most is past =
+    subst (λ (n : ℕ). Past q (take n es)) (omega arith) past
+more_past q es i at (suc zero) d s lt le most is past =
+    past_at q es i (at + 1) d (yes _ s) lt (is refl) (omega arith)
 more_past q es i at (suc (suc more)) d s lt le most is past = absurd (omega arith)
 
-pub at_place : (q : List ℕ) (es : List Pair) (at : ℕ) (d : Pair) → Past q (take at es) → at < length es → order q (get_or es at d).0 ≡ Equal
+pub at_place : (q : List ℕ) (es : List Pair) (at : ℕ) (d : Pair) → Past q (take at es)
+    → at < length es → order q (get_or es at d).0 ≡ Equal
     → IsAt order q es at
 at_place q [] at d past lt is = absurd (omega arith)
 at_place q (e ∷ es) zero d past lt is = is
 at_place q (e ∷ es) (suc at) d past lt is = (past.0, at_place q es at d past.1 (omega arith) is)
 
-pub gap_place : (q : List ℕ) (es : List Pair) (at : ℕ) (d : Pair) → Past q (take at es) → at ≤ length es → (at < length es → order q (get_or es at d).0 ≡ Less)
+pub gap_place : (q : List ℕ) (es : List Pair) (at : ℕ) (d : Pair) → Past q (take at es)
+    → at ≤ length es → (at < length es → order q (get_or es at d).0 ≡ Less)
     → IsGap order q es at
 gap_place q [] zero d past le is = refl
 gap_place q [] (suc at) d past le is = absurd (omega arith)
 gap_place q (e ∷ es) zero d past le is = is (omega arith)
-gap_place q (e ∷ es) (suc at) d past le is = (past.0, gap_place q es at d past.1 (omega arith) (λ lt. is (omega arith)))
+gap_place q (e ∷ es) (suc at) d past le is =
+    (past.0, gap_place q es at d past.1 (omega arith) (λ lt. is (omega arith)))
 
 -- an item that a key was compared with, seen from the key
-pub turned : (q : List ℕ) (x y : Pair) (r s : Ordering) → x ≡ y → r ≡ order x.0 q → r ≡ s → order q y.0 ≡ ordering_reverse s
+pub turned : (q : List ℕ) (x y : Pair) (r s : Ordering) → x ≡ y → r ≡ order x.0 q → r ≡ s
+    → order q y.0 ≡ ordering_reverse s
 turned q x y r s same is answer =
-    ap (λ (p : Pair). order q p.0) (sym same) ∙ nat_list_cmp_total.antisymm q x.0 ∙ ap ordering_reverse (sym is ∙ answer)
+    ap (λ (p : Pair). order q p.0) (sym same) ∙ nat_list_cmp_total.antisymm q x.0
+    ∙ ap ordering_reverse (sym is ∙ answer)

@@ -36,7 +36,11 @@ subtree_code =
     (coded× (coded_list pair_code) (coded× coded_ℕ (coded× coded_ℕ (coded× coded_ℕ coded_ℕ))))
     (λ s. (s.pairs, (s.own, (s.depth, (s.nodes, s.inner)))))
     (λ p. record {
-      pairs = p.0; own = p.1.0; depth = p.1.1.0; nodes = p.1.1.1.0; inner = p.1.1.1.1
+      pairs = p.0;
+      own = p.1.0;
+      depth = p.1.1.0;
+      nodes = p.1.1.1.0;
+      inner = p.1.1.1.1;
     }) (λ _. refl)
 
 -- what the kids hold, with a pair of the node's own between each two

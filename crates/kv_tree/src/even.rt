@@ -1,6 +1,8 @@
-ghost use Rattle.std.specs.Prelude.{◌∷◌, ◌++◌, ◌≡◌, ◌+◌, ◌<◌, ◌≤◌, IfSome, IfNone, vec_len, vec_capacity};
+ghost use Rattle.std.specs.Prelude.{◌∷◌, ◌++◌, ◌≡◌, ◌+◌, ◌<◌, ◌≤◌, IfSome, IfNone, vec_len};
+ghost use Rattle.std.specs.Prelude.{vec_capacity};
 ghost use Rattle.kv_tree.specs.Subtree.{weave, joined_pairs, joined_nodes, joined_inner, nodes_in};
-ghost use Rattle.kv_tree.specs.Subtree.{inner_over, depth_over, level_of, IsNode, IsKid, AreKidsBut};
+ghost use Rattle.kv_tree.specs.Subtree.{inner_over, depth_over, level_of, IsNode, IsKid};
+ghost use Rattle.kv_tree.specs.Subtree.{AreKidsBut};
 ghost use Rattle.kv_tree.specs.Subtree.{IsThinAt, TakesAtMost};
 
 use crate::item::Item;
@@ -47,8 +49,10 @@ fn merge(left: &mut Node, middle: Item, mut right: Node, pool: &mut Pool)
     requires room { pool.old.nodes < pool.old.room }
     requires inner_room { pool.old.inner < pool.old.room }
     ensures pairs { left.new.pairs ≡ left.old.pairs ++ middle ∷ right.pairs }
-    ensures nodes { left.new.nodes + pool.new.nodes ≡ left.old.nodes + right.nodes + pool.old.nodes }
-    ensures inner { left.new.inner + pool.new.inner ≡ left.old.inner + right.inner + pool.old.inner }
+    ensures nodes { left.new.nodes + pool.new.nodes ≡ left.old.nodes + right.nodes +
+        pool.old.nodes }
+    ensures inner { left.new.inner + pool.new.inner ≡ left.old.inner + right.inner +
+        pool.old.inner }
     ensures spares { TakesAtMost 0 pool.old pool.new }
     ensures room { pool.new.room ≡ pool.old.room }
     ensures kid { IsKid left.old.depth left.new }
@@ -83,7 +87,8 @@ fn shift_left(left: &mut Node, middle: Item, mut right: Node) -> (Item, Node)
     requires depth { left.old.depth ≡ right.depth }
     requires left { (14 ≤ left.old.own) × (left.old.own ≤ 30) }
     requires right { (16 ≤ right.own) × (right.own ≤ 31) }
-    ensures pairs { left.new.pairs ++ result.0 ∷ result.1.pairs ≡ left.old.pairs ++ middle ∷ right.pairs }
+    ensures pairs { left.new.pairs ++ result.0 ∷ result.1.pairs ≡ left.old.pairs
+        ++ middle ∷ right.pairs }
     ensures nodes { left.new.nodes + result.1.nodes ≡ left.old.nodes + right.nodes }
     ensures inner { left.new.inner + result.1.inner ≡ left.old.inner + right.inner }
     ensures left { IsKid left.old.depth left.new }
@@ -100,7 +105,8 @@ fn shift_right(left: &mut Node, middle: Item, mut right: Node) -> (Item, Node)
     requires depth { left.old.depth ≡ right.depth }
     requires left { (16 ≤ left.old.own) × (left.old.own ≤ 31) }
     requires right { (14 ≤ right.own) × (right.own ≤ 30) }
-    ensures pairs { left.new.pairs ++ result.0 ∷ result.1.pairs ≡ left.old.pairs ++ middle ∷ right.pairs }
+    ensures pairs { left.new.pairs ++ result.0 ∷ result.1.pairs ≡ left.old.pairs
+        ++ middle ∷ right.pairs }
     ensures nodes { left.new.nodes + result.1.nodes ≡ left.old.nodes + right.nodes }
     ensures inner { left.new.inner + result.1.inner ≡ left.old.inner + right.inner }
     ensures left { IsKid left.old.depth left.new }
@@ -124,11 +130,14 @@ pub fn refill(items: &mut Vec<Item>, kids: &mut Vec<Node>, at: usize, pool: &mut
     requires room { nodes_in kids.old.items + 1 + pool.old.nodes ≤ pool.old.room }
     requires inner_room { inner_over kids.old.items + pool.old.inner ≤ pool.old.room }
     ensures pairs { weave kids.new.items items.new.items ≡ weave kids.old.items items.old.items }
-    ensures nodes { nodes_in kids.new.items + pool.new.nodes ≡ nodes_in kids.old.items + pool.old.nodes }
-    ensures inner { inner_over kids.new.items + pool.new.inner ≡ inner_over kids.old.items + pool.old.inner }
+    ensures nodes { nodes_in kids.new.items + pool.new.nodes
+        ≡ nodes_in kids.old.items + pool.old.nodes }
+    ensures inner { inner_over kids.new.items + pool.new.inner
+        ≡ inner_over kids.old.items + pool.old.inner }
     ensures spares { TakesAtMost 0 pool.old pool.new }
     ensures room { pool.new.room ≡ pool.old.room }
-    ensures node { IsNode kids.new.items items.new.items (vec_capacity kids.new) (vec_capacity items.new) }
+    ensures node { IsNode kids.new.items items.new.items (vec_capacity kids.new)
+        (vec_capacity items.new) }
     ensures depth { depth_over kids.new.items ≡ depth_over kids.old.items }
     ensures fewer { vec_len items.new ≤ vec_len items.old }
     ensures own { vec_len items.old ≤ vec_len items.new + 1 }
@@ -154,11 +163,14 @@ fn even_at(items: &mut Vec<Item>, kids: &mut Vec<Node>, at: usize, first: usize,
     requires room { nodes_in kids.old.items + 1 + pool.old.nodes ≤ pool.old.room }
     requires inner_room { inner_over kids.old.items + pool.old.inner ≤ pool.old.room }
     ensures pairs { weave kids.new.items items.new.items ≡ weave kids.old.items items.old.items }
-    ensures nodes { nodes_in kids.new.items + pool.new.nodes ≡ nodes_in kids.old.items + pool.old.nodes }
-    ensures inner { inner_over kids.new.items + pool.new.inner ≡ inner_over kids.old.items + pool.old.inner }
+    ensures nodes { nodes_in kids.new.items + pool.new.nodes
+        ≡ nodes_in kids.old.items + pool.old.nodes }
+    ensures inner { inner_over kids.new.items + pool.new.inner
+        ≡ inner_over kids.old.items + pool.old.inner }
     ensures spares { TakesAtMost 0 pool.old pool.new }
     ensures room { pool.new.room ≡ pool.old.room }
-    ensures node { IsNode kids.new.items items.new.items (vec_capacity kids.new) (vec_capacity items.new) }
+    ensures node { IsNode kids.new.items items.new.items (vec_capacity kids.new)
+        (vec_capacity items.new) }
     ensures depth { depth_over kids.new.items ≡ depth_over kids.old.items }
     ensures fewer { vec_len items.new ≤ vec_len items.old }
     ensures own { vec_len items.old ≤ vec_len items.new + 1 }

@@ -6,11 +6,11 @@ mod head;
 mod item;
 mod moves;
 mod node;
+mod nodes;
 mod pool;
 mod root;
 mod search;
 mod split;
-mod nodes;
 mod tree;
 
 pub use tree::TreeIndex;

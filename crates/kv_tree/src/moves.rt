@@ -1,4 +1,5 @@
-ghost use Rattle.std.specs.Prelude.{◌≡◌, ◌+◌, ◌-◌, ◌<◌, ◌≤◌, [], ◌∷◌, ◌++◌, insert, vec_len, vec_capacity};
+ghost use Rattle.std.specs.Prelude.{◌≡◌, ◌+◌, ◌-◌, ◌<◌, ◌≤◌, [], ◌∷◌, ◌++◌, insert, vec_len};
+ghost use Rattle.std.specs.Prelude.{vec_capacity};
 
 // Inserts where there is room, which takes no memory.
 pub fn insert_within<T: Drop>(items: &mut Vec<T>, at: usize, item: T)
@@ -68,8 +69,10 @@ pub fn append_within<T: Drop>(to: &mut Vec<T>, from: &mut Vec<T>)
 pub fn move_first<T: Drop>(to: &mut Vec<T>, from: &mut Vec<T>)
     requires room { 0 < vec_len from.old → vec_len to.old < vec_capacity to.old }
     ensures items { to.new.items ++ from.new.items ≡ to.old.items ++ from.old.items }
-    ensures len { 0 < vec_len from.old → (vec_len from.new + 1 ≡ vec_len from.old) × (vec_len to.new ≡ vec_len to.old + 1) }
-    ensures none { vec_len from.old ≡ 0 → (vec_len from.new ≡ 0) × (vec_len to.new ≡ vec_len to.old) }
+    ensures len { 0 < vec_len from.old → (vec_len from.new + 1 ≡ vec_len from.old)
+        × (vec_len to.new ≡ vec_len to.old + 1) }
+    ensures none { vec_len from.old ≡ 0 → (vec_len from.new ≡ 0)
+        × (vec_len to.new ≡ vec_len to.old) }
     ensures capacity { vec_capacity to.old ≤ vec_capacity to.new }
     ensures from_capacity { vec_capacity from.new ≡ vec_capacity from.old }
 {
@@ -83,8 +86,10 @@ pub fn move_first<T: Drop>(to: &mut Vec<T>, from: &mut Vec<T>)
 pub fn move_last<T: Drop>(from: &mut Vec<T>, to: &mut Vec<T>)
     requires room { 0 < vec_len from.old → vec_len to.old < vec_capacity to.old }
     ensures items { from.new.items ++ to.new.items ≡ from.old.items ++ to.old.items }
-    ensures len { 0 < vec_len from.old → (vec_len from.new + 1 ≡ vec_len from.old) × (vec_len to.new ≡ vec_len to.old + 1) }
-    ensures none { vec_len from.old ≡ 0 → (vec_len from.new ≡ 0) × (vec_len to.new ≡ vec_len to.old) }
+    ensures len { 0 < vec_len from.old → (vec_len from.new + 1 ≡ vec_len from.old)
+        × (vec_len to.new ≡ vec_len to.old + 1) }
+    ensures none { vec_len from.old ≡ 0 → (vec_len from.new ≡ 0)
+        × (vec_len to.new ≡ vec_len to.old) }
     ensures capacity { vec_capacity to.old ≤ vec_capacity to.new }
     ensures from_capacity { vec_capacity from.new ≡ vec_capacity from.old }
 {

@@ -39,7 +39,8 @@ impl Model for Node {
 
     ghost view = { λ a. subtree a.kids.items a.items.items };
 
-    ghost invariant = { λ a. IsNode a.kids.items a.items.items (vec_capacity a.kids) (vec_capacity a.items) };
+    ghost invariant = { λ a. IsNode a.kids.items a.items.items (vec_capacity a.kids)
+        (vec_capacity a.items) };
 
     ghost size = { λ s. s.depth };
 
@@ -47,7 +48,8 @@ impl Model for Node {
 }
 
 impl Node {
-    /// A leaf with no items, and room for all that a node may hold. The one error is want of memory.
+    /// A leaf with no items, and room for all that a node may hold. The one error is want of
+    /// memory.
     pub fn leaf(alloc: Global) -> Result<Node, NoMemory>
         ensures ok { IfOk result (λ node. node ≡ blank) }
     {
@@ -84,7 +86,8 @@ impl Node {
         }
     }
 
-    /// Gives the key this entry, and answers whether it was there. Where the node overflows, what is
+    /// Gives the key this entry, and answers whether it was there. Where the node overflows, what
+    /// is
     /// right of its middle item comes back.
     pub fn set(&mut self, number: u64, pool: &mut Pool, item: Item) -> (bool, Option<(Item, Node)>)
         requires rising { HasRisingKeys (slice_cmp nat_cmp) self.old.pairs }
@@ -93,19 +96,24 @@ impl Node {
         requires room { HasRoom self.old pool.old }
         requires width { HasWidth self.old pool.old }
         ensures found { result.0 ≡ is_some (entry_of self.old.pairs item.0) }
-        ensures pairs { joined_pairs self.new result.1 ≡ put (slice_cmp nat_cmp) item.0 item.1 self.old.pairs }
+        ensures pairs { joined_pairs self.new result.1 ≡ put (slice_cmp nat_cmp) item.0 item.1
+            self.old.pairs }
 
         // what it takes from the pool
-        ensures nodes { joined_nodes self.new result.1 + pool.new.nodes ≡ self.old.nodes + pool.old.nodes }
-        ensures inner { joined_inner self.new result.1 + pool.new.inner ≡ self.old.inner + pool.old.inner }
+        ensures nodes { joined_nodes self.new result.1 + pool.new.nodes
+            ≡ self.old.nodes + pool.old.nodes }
+        ensures inner { joined_inner self.new result.1 + pool.new.inner
+            ≡ self.old.inner + pool.old.inner }
         ensures takes { TakesAtMost (new_keys result.0) pool.old pool.new }
         ensures room { pool.new.room ≡ pool.old.room }
 
         // what shape it leaves
         ensures whole { IfNone result.1 (self.new.depth ≡ self.old.depth) }
         ensures own { IfNone result.1 ((self.old.own ≤ self.new.own) × (self.new.own ≤ 31)) }
-        ensures kid { IfNone result.1 (IsKid self.old.depth self.old → IsKid self.old.depth self.new) }
-        ensures split { IfSome result.1 (λ right. IsKid self.old.depth self.new × IsKid self.old.depth right.1) }
+        ensures kid { IfNone result.1 (IsKid self.old.depth self.old
+            → IsKid self.old.depth self.new) }
+        ensures split { IfSome result.1 (λ right. IsKid self.old.depth self.new
+            × IsKid self.old.depth right.1) }
     {
         match place_of(&self.items, number, item.key()) {
             Ok(at) => {
@@ -149,7 +157,8 @@ impl Node {
         ensures depth { self.new.depth ≡ self.old.depth }
         ensures fewer { self.new.own ≤ self.old.own }
         ensures own { self.old.own ≤ self.new.own + 1 }
-        ensures kid { IsKid self.old.depth self.old → 15 ≤ self.new.own → IsKid self.old.depth self.new }
+        ensures kid { IsKid self.old.depth self.old → 15 ≤ self.new.own
+            → IsKid self.old.depth self.new }
     {
         match place_of(&self.items, number, key) {
             Ok(at) => {
@@ -191,7 +200,8 @@ impl Node {
         ensures depth { self.new.depth ≡ self.old.depth }
         ensures fewer { self.new.own ≤ self.old.own }
         ensures own { self.old.own ≤ self.new.own + 1 }
-        ensures kid { IsKid self.old.depth self.old → 15 ≤ self.new.own → IsKid self.old.depth self.new }
+        ensures kid { IsKid self.old.depth self.old → 15 ≤ self.new.own
+            → IsKid self.old.depth self.new }
     {
         let count = self.kids.len();
         if count > 0 {

@@ -72,7 +72,8 @@ impl Index for Nodes {
         let wanted = n as usize;
         if self.spare < wanted {
             let pairs = self.keys as usize + wanted;
-            self.pool.fill(&mut self.all, &mut self.inner, wanted, pairs)?;
+            self.pool
+                .fill(&mut self.all, &mut self.inner, wanted, pairs)?;
             self.spare = wanted;
         }
         Ok(())

@@ -8,7 +8,8 @@ use kv_base::NoMemory;
 use std::alloc::Global;
 use std::marker::Model;
 
-/// Nodes that stand ready, so that a change takes no memory. A node gets room for kids only where it
+/// Nodes that stand ready, so that a change takes no memory. A node gets room for kids only where
+/// it
 /// becomes more than a leaf.
 #[derive(Drop)]
 pub struct Pool {
@@ -27,7 +28,9 @@ impl Model for Pool {
     ghost coded = { spares_code };
 
     ghost view = { λ p. record {
-      nodes = vec_len p.nodes; inner = vec_len p.inner; room = p.room
+      nodes = vec_len p.nodes;
+      inner = vec_len p.inner;
+      room = p.room;
     } };
 
     ghost invariant = { λ p. record {

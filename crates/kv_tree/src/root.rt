@@ -1,4 +1,5 @@
-ghost use Rattle.std.specs.Prelude.{[], ◌∷◌, ◌≡◌, ◌+◌, ◌*◌, ◌<◌, ◌≤◌, length, is_some, vec_capacity};
+ghost use Rattle.std.specs.Prelude.{[], ◌∷◌, ◌≡◌, ◌+◌, ◌*◌, ◌<◌, ◌≤◌, length, is_some};
+ghost use Rattle.std.specs.Prelude.{vec_capacity};
 ghost use Rattle.std.specs.Ordering.{nat_cmp};
 ghost use Rattle.std.specs.Cmp.Lexicographic.{slice_cmp};
 ghost use Rattle.std.specs.FinMap.Entries.{put};
@@ -56,7 +57,8 @@ pub fn set_below(root: &mut Node, number: u64, pool: &mut Pool, item: Item) -> b
     ensures takes { TakesAtMost (new_keys result) pool.old pool.new }
     ensures room { pool.new.room ≡ pool.old.room }
     ensures few { root.new.own ≤ 31 }
-    ensures has_own { (0 < root.old.depth → 0 < root.old.own) → 0 < root.new.depth → 0 < root.new.own }
+    ensures has_own { (0 < root.old.depth → 0 < root.old.own) → 0 < root.new.depth
+        → 0 < root.new.own }
 {
     let (found, split) = root.set(number, pool, item);
     match split {

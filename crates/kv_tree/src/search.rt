@@ -42,7 +42,8 @@ fn search(items: &[Item], number: u64, key: &[u8]) -> Result<usize, usize>
 {
     items.binary_search_by(
         |item: &Item| -> Ordering
-            ensures { HasHead key.entry.now number → result ≡ slice_cmp nat_cmp item.now.0 key.entry.now }
+            ensures { HasHead key.entry.now number → result
+                ≡ slice_cmp nat_cmp item.now.0 key.entry.now }
         { item.cmp_key(number, key) },
     )
 }

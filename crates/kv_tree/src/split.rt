@@ -1,4 +1,5 @@
-ghost use Rattle.std.specs.Prelude.{[], ◌++◌, ◌≡◌, ◌+◌, ◌<◌, ◌≤◌, IfSome, IfNone, vec_len, vec_capacity};
+ghost use Rattle.std.specs.Prelude.{[], ◌++◌, ◌≡◌, ◌+◌, ◌<◌, ◌≤◌, IfSome, IfNone, vec_len};
+ghost use Rattle.std.specs.Prelude.{vec_capacity};
 ghost use Rattle.kv_tree.specs.Subtree.{weave, subtree, joined_pairs, joined_nodes, joined_inner};
 ghost use Rattle.kv_tree.specs.Subtree.{nodes_in, inner_over, depth_over, level_of};
 ghost use Rattle.kv_tree.specs.Subtree.{AreKids, IsShape, IsNode, IsKid, TakesAtMost};
@@ -9,7 +10,11 @@ use crate::node::Node;
 use crate::pool::Pool;
 
 // Where there are too many items, moves those right of the middle one into a node of their own.
-pub fn split_over(items: &mut Vec<Item>, kids: &mut Vec<Node>, pool: &mut Pool) -> Option<(Item, Node)>
+pub fn split_over(
+    items: &mut Vec<Item>,
+    kids: &mut Vec<Node>,
+    pool: &mut Pool,
+) -> Option<(Item, Node)>
     requires level { AreKids (level_of kids.old.items) kids.old.items }
     requires shape { IsShape kids.old.items items.old.items }
     requires few { vec_len items.old ≤ 32 }
@@ -17,7 +22,8 @@ pub fn split_over(items: &mut Vec<Item>, kids: &mut Vec<Node>, pool: &mut Pool) 
     requires kid_room { 0 < vec_len kids.old → 33 ≤ vec_capacity kids.old }
     requires spare { 31 < vec_len items.old → 0 < pool.old.nodes }
     requires spare_inner { 31 < vec_len items.old → 0 < vec_len kids.old → 0 < pool.old.inner }
-    ensures pairs { joined_pairs (subtree kids.new.items items.new.items) result ≡ weave kids.old.items items.old.items }
+    ensures pairs { joined_pairs (subtree kids.new.items items.new.items) result
+        ≡ weave kids.old.items items.old.items }
     ensures nodes { joined_nodes (subtree kids.new.items items.new.items) result + pool.new.nodes
         ≡ nodes_in kids.old.items + 1 + pool.old.nodes }
     ensures inner { joined_inner (subtree kids.new.items items.new.items) result + pool.new.inner
@@ -25,8 +31,10 @@ pub fn split_over(items: &mut Vec<Item>, kids: &mut Vec<Node>, pool: &mut Pool) 
     ensures takes { TakesAtMost 1 pool.old pool.new }
     ensures takes_inner { 0 < vec_len kids.old → TakesAtMost 0 pool.old pool.new }
     ensures room { pool.new.room ≡ pool.old.room }
-    ensures node { IsNode kids.new.items items.new.items (vec_capacity kids.new) (vec_capacity items.new) }
-    ensures whole { IfNone result ((kids.new.items ≡ kids.old.items) × (items.new.items ≡ items.old.items)) }
+    ensures node { IsNode kids.new.items items.new.items (vec_capacity kids.new)
+        (vec_capacity items.new) }
+    ensures whole { IfNone result ((kids.new.items ≡ kids.old.items)
+        × (items.new.items ≡ items.old.items)) }
     ensures split { IfSome result (λ right.
         IsKid (depth_over kids.old.items) (subtree kids.new.items items.new.items)
         × IsKid (depth_over kids.old.items) right.1) }

@@ -10,9 +10,11 @@ take-top-requires c =
     let nodes = rw c.in-Some.is at c.set-found.ensures.nodes in
     let pairs = rw c.in-Some.is at c.set-found.ensures.pairs in
     let inner = rw c.in-Some.is at c.set-found.ensures.inner in
-    top_left _ _ c.args.root.now c.set-found.new.self _ c.in-Some.right c.args.root.now.depth (new_keys c.set-found.result.0) c.args.pool.now c.set-found.new.pool
-    split.0 split.1 pairs nodes c.set-found.ensures.takes (one_key_more c.set-found.result.0) 
-    (top_inner c.args.root.now c.set-found.new.self c.in-Some.right _ c.args.pool.now c.set-found.new.pool split.0 split.1 nodes inner c.requires.wide) c.requires.enough
+    top_left _ _ c.args.root.now c.set-found.new.self _ c.in-Some.right c.args.root.now.depth
+    (new_keys c.set-found.result.0) c.args.pool.now c.set-found.new.pool
+    split.0 split.1 pairs nodes c.set-found.ensures.takes (one_key_more c.set-found.result.0)
+    (top_inner c.args.root.now c.set-found.new.self c.in-Some.right _ c.args.pool.now
+    c.set-found.new.pool split.0 split.1 nodes inner c.requires.wide) c.requires.enough
 
 pub take_kids-kids-requires : goal.take_kids-kids-requires
 take_kids-kids-requires c =
@@ -21,6 +23,7 @@ take_kids-kids-requires c =
     let inner = rw c.in-Some.is at c.set-found.ensures.inner in
     omega (
       arith,
-      top_inner c.args.root.now c.set-found.new.self c.in-Some.right _ c.args.pool.now c.set-found.new.pool split.0 split.1 nodes inner c.requires.wide,
+      top_inner c.args.root.now c.set-found.new.self c.in-Some.right _ c.args.pool.now
+          c.set-found.new.pool split.0 split.1 nodes inner c.requires.wide,
       c.take-top.ensures.inner,
     )

@@ -12,4 +12,6 @@ invariant_of-self c = record {
 }
 
 pub returns-clause-value : goal.returns-clause-value
-returns-clause-value c = (blank_last c.pop.new.self.items _ (subst AreBlank c.in-Some.ensures.items c.self.invariant.blank)).1
+returns-clause-value c =
+    (blank_last c.pop.new.self.items _ (subst AreBlank c.in-Some.ensures.items
+    c.self.invariant.blank)).1

@@ -13,8 +13,10 @@ invariant_of-self c = record {
 
 pub returns-clause-empty : goal.returns-clause-empty
 returns-clause-empty c =
-    (rooms_last c.pop.new.self.items _ (subst AreKidRooms c.in-Some.ensures.items c.self.invariant.empty)).1.0
+    (rooms_last c.pop.new.self.items _ (subst AreKidRooms c.in-Some.ensures.items
+    c.self.invariant.empty)).1.0
 
 pub returns-clause-capacity : goal.returns-clause-capacity
 returns-clause-capacity c =
-    (rooms_last c.pop.new.self.items _ (subst AreKidRooms c.in-Some.ensures.items c.self.invariant.empty)).1.1
+    (rooms_last c.pop.new.self.items _ (subst AreKidRooms c.in-Some.ensures.items
+    c.self.invariant.empty)).1.1

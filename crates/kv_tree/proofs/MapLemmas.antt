@@ -21,7 +21,8 @@ use Rattle.kv_index.specs.Places.{HasRisingKeys}
 use Rattle.kv_index.proofs.EntriesLemmas.{one_key, len_is}
 use Rattle.kv_tree.specs.Subtree.{Pair, next_from, entry_of, without, indexed_of}
 use Rattle.kv_tree.proofs.WeaveLemmas.{append_none}
-use Rattle.kv_tree.proofs.WeaveLemmas.{order, Past, IsBelow, Rises, yes, is_yes, find_past}
+use Rattle.kv_tree.proofs.WeaveLemmas.{order, IsBelow, Rises, yes, is_yes, find_past}
+use Rattle.kv_tree.specs.Subtree.{Past}
 use Rattle.kv_tree.proofs.WeaveLemmas.{find_none, rises_right, below_from, past_upto}
 
 abbrev map_of : List Pair → Entries

@@ -8,7 +8,8 @@ use Rattle.std.proofs.lemmas.Cmp.{nat_list_cmp_total}
 use Rattle.kv_index.specs.Places.{HasRisingKeys, IsAt, IsGap}
 use Rattle.kv_index.proofs.PlacesLemmas.{below_get, first, second}
 use Rattle.kv_tree.specs.Subtree.{Pair}
-use Rattle.kv_tree.proofs.WeaveLemmas.{Past, Rises, yes, order, upto_greater}
+use Rattle.kv_tree.proofs.WeaveLemmas.{Rises, yes, order, upto_greater}
+use Rattle.kv_tree.specs.Subtree.{Past}
 
 -- where a pair is before the key, so are those before it
 past_at : (q : List ℕ) (es : List Pair) (i n : ℕ) (d : Pair) → Rises es → i < length es
@@ -61,3 +62,8 @@ pub turned : (q : List ℕ) (x y : Pair) (r s : Ordering) → x ≡ y → r ≡ 
 turned q x y r s same is answer =
     ap (λ (p : Pair). order q p.0) (sym same) ∙ nat_list_cmp_total.antisymm q x.0
     ∙ ap ordering_reverse (sym is ∙ answer)
+
+-- where the last pair is before the key, all are
+pub all_past : (q : List ℕ) (es : List Pair) (i : ℕ) (d : Pair) → HasRisingKeys order es
+    → i + 1 ≡ length es → order q (get_or es i d).0 ≡ Greater → Past q (take (length es) es)
+all_past q es i d s last is = past_at q es i (length es) d (yes _ s) (omega arith) is (omega arith)

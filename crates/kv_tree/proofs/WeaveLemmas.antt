@@ -16,7 +16,7 @@ use Rattle.kv_index.specs.Places.{HasRisingKeys, IsAt, IsGap}
 use Rattle.kv_index.proofs.EntriesLemmas.{one_key}
 use Rattle.kv_index.proofs.PlacesLemmas.{at_ties, at-lt, gap-le, find_gap, both, first, second}
 use Rattle.kv_index.proofs.PlacesLemmas.{less, is_less, by}
-use Rattle.kv_tree.specs.Subtree.{Pair, Subtree, weave, behind, IsShape, IsNode, IsKid, AreKids}
+use Rattle.kv_tree.specs.Subtree.{Past, Pair, Subtree, weave, behind, IsShape, IsNode, IsKid, AreKids}
 use Rattle.kv_tree.specs.Subtree.{subtree, depth_over, level_of, entry_of, next_from}
 
 abbrev pub order : List ℕ → List ℕ → Ordering
@@ -28,11 +28,6 @@ yes b is = subst T (sym is) tt
 pub is_yes : (b : Bool) → T b → IsTrue b
 is_yes true h = refl
 is_yes false h = absurd h
-
--- each key is less than this one
-abbrev pub Past : List ℕ → List Pair → Type 0
-Past q [] = Unit {0}
-Past q (e ∷ es) = (order q e.0 ≡ Greater) × Past q es
 
 -- this key is less than each
 abbrev pub IsBelow : List ℕ → List Pair → Type 0

@@ -3,6 +3,7 @@ use Rattle.kv_index.specs.Places.{HasRisingKeys}
 use Rattle.std.specs.Prelude.{◌^◌, ◌<◌, ◌≡◌, ℕ, zero, suc, not, ◌+◌, ◌-◌, ◌*◌, ◌≤◌, List, [], ◌∷◌}
 use Rattle.std.specs.Prelude.{◌++◌, length, Option, None, Some, Bool, true, false, cond, refl}
 use Rattle.std.specs.Prelude.{vec_capacity}
+use Rattle.std.specs.declared.cmp.Ordering.TheVariants.{Greater}
 use Rattle.std.specs.Coded.{Coded, code_by, coded×, coded_list, coded_ℕ}
 use Rattle.std.specs.Ordering.{nat_cmp, is_gt, eq_by_cmp}
 use Rattle.std.specs.Cmp.Lexicographic.{slice_cmp}
@@ -124,6 +125,11 @@ abbrev pub next_from : List ℕ → List Pair → Option Pair
 next_from key [] = None
 next_from key (pair ∷ pairs) =
     cond (is_gt (slice_cmp nat_cmp key pair.0)) (next_from key pairs) (Some pair)
+
+-- each of these keys is less than this one
+abbrev pub Past : List ℕ → List Pair → Type 0
+Past key [] = Unit {0}
+Past key (pair ∷ pairs) = (slice_cmp nat_cmp key pair.0 ≡ Greater) × Past key pairs
 
 -- what a node holds behind one of its kids: nothing, or a pair of its own and what follows it
 abbrev pub behind : List Subtree → List Pair → List Pair

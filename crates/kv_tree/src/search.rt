@@ -1,5 +1,6 @@
 ghost use Rattle.std.specs.Prelude.{length, IfOk, IfErr};
-ghost use Rattle.std.specs.Prelude.{◌≡◌};
+ghost use Rattle.std.specs.Prelude.{◌≡◌, ◌≤◌, List, ℕ, take};
+ghost use Rattle.kv_tree.specs.Subtree.{Past};
 ghost use Rattle.std.specs.List.Sorted.{IsSearchInRange};
 ghost use Rattle.std.specs.Ordering.{nat_cmp};
 ghost use Rattle.std.specs.Cmp.Lexicographic.{slice_cmp};
@@ -9,8 +10,7 @@ ghost use Rattle.kv_tree.specs.Head.{HasHead};
 use crate::item::Item;
 use std::cmp::Ordering;
 
-// Where the key stands, or else where it would. All heads are compared, which takes no branch that
-// may be guessed wrong, and reads them in order.
+// Where the key stands, or else where it would.
 pub fn place_of(items: &[Item], number: u64, key: &[u8]) -> Result<usize, usize>
     requires rising { HasRisingKeys (slice_cmp nat_cmp) items.now }
     requires number { HasHead key.now number }
@@ -18,10 +18,7 @@ pub fn place_of(items: &[Item], number: u64, key: &[u8]) -> Result<usize, usize>
     ensures found { IfOk result (IsAt (slice_cmp nat_cmp) key.now items.now) }
     ensures absent { IfErr result (IsGap (slice_cmp nat_cmp) key.now items.now) }
 {
-    let mut at: usize = 0;
-    for item in items {
-        at += item.below(number);
-    }
+    let at = count_below(items, number);
     if at == items.len() {
         return Err(at);
     }
@@ -30,6 +27,27 @@ pub fn place_of(items: &[Item], number: u64, key: &[u8]) -> Result<usize, usize>
         Ordering::Greater => Err(at),
         Ordering::Less => search(items, number, key),
     }
+}
+
+// How many items come before each key with this head, by their heads alone. The ends come first, for
+// keys in order. Then all heads are looked at: that takes no branch that may be guessed wrong.
+fn count_below(items: &[Item], number: u64) -> usize
+    requires { HasRisingKeys (slice_cmp nat_cmp) items.now }
+    ensures bound { result ≤ length items.now }
+    ensures past { (key : List ℕ) → HasHead key number → Past key (take result items.now) }
+{
+    let len = items.len();
+    if len == 0 || items[0].below(number) == 0 {
+        return 0;
+    }
+    if items[len - 1].below(number) == 1 {
+        return len;
+    }
+    let mut at: usize = 0;
+    for item in items {
+        at += item.below(number);
+    }
+    at
 }
 
 // The same by halves, for items whose heads are alike.

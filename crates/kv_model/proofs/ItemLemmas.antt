@@ -1,5 +1,6 @@
 -- Lemmas on the items of a history.
-use Rattle.std.proofs.Common.{◌≡◌, ℕ, ◌⊎◌, inl, inr, true, List, [], ◌∷◌, ◌-◌, Option, None, Some, refl, sym, ap, ◌∙◌}
+use Rattle.std.proofs.Common.{◌≡◌, ℕ, ◌⊎◌, inl, inr, true, List, [], ◌∷◌, ◌-◌, Option, None, Some}
+use Rattle.std.proofs.Common.{refl, sym, ap, ◌∙◌}
 use Rattle.std.proofs.Common.{subst, arith, Contains}
 use Rattle.std.specs.List.{AllByRecursion}
 use Rattle.kv_model.specs.Pairwise.{Pairwise}
@@ -7,7 +8,8 @@ use Rattle.kv_model.specs.History.{Write, value_at}
 use Rattle.kv_model.specs.Batch.{Start}
 use Rattle.kv_model.specs.Items.{KeyValue, AreItems, IsLess, SameValue, BeginsAt, class_with}
 use Rattle.kv_model.specs.Items.{count_of_class}
-use Rattle.kv_model.proofs.ContainsLemmas.{Contains-cons, Contains-first, Contains-behind, All-member}
+use Rattle.kv_model.proofs.ContainsLemmas.{Contains-cons, Contains-first, Contains-behind}
+use Rattle.kv_model.proofs.ContainsLemmas.{All-member}
 use Rattle.kv_model.proofs.KeyLemmas.{less-trans, less-apart}
 
 -- by rising key

@@ -1,6 +1,8 @@
 -- Lemmas on looking for the next item.
-use Rattle.std.proofs.Common.{◌≡◌, ℕ, ◌+◌, ◌≤◌, ◌<◌, ◌⊎◌, inl, inr, Bool, true, false, cond, List, []}
-use Rattle.std.proofs.Common.{◌∷◌, ◌++◌, Option, None, Some, refl, sym, ap, ◌∙◌, subst, arith, is_some}
+use Rattle.std.proofs.Common.{◌≡◌, ℕ, ◌+◌, ◌≤◌, ◌<◌, ◌⊎◌, inl, inr, Bool, true, false, cond, List}
+use Rattle.std.proofs.Common.{[]}
+use Rattle.std.proofs.Common.{◌∷◌, ◌++◌, Option, None, Some, refl, sym, ap, ◌∙◌, subst, arith}
+use Rattle.std.proofs.Common.{is_some}
 use Rattle.std.proofs.Common.{true≢false, IsTrue, IsSome, Contains, ◌&&◌, nat_le, option_and_then}
 use Rattle.std.specs.List.{AllByRecursion, count_by}
 use Rattle.std.specs.Str.{bytes_eq}
@@ -11,13 +13,15 @@ use Rattle.std.proofs.lemmas.List.Sums.{sum_by-cons}
 use Rattle.kv_model.specs.Pairwise.{Pairwise}
 use Rattle.kv_model.specs.History.{Write, latest, later_of, value_at}
 use Rattle.kv_model.specs.Items.{KeyValue, AreItems, IsLess, is_in_range}
-use Rattle.kv_model.specs.Lookup.{Lookup, IsWanted, IsLeastOf, IsNext, IsAtMost, IsPassed, AreItemsSoFar}
+use Rattle.kv_model.specs.Lookup.{Lookup, IsWanted, IsLeastOf, IsNext, IsAtMost, IsPassed}
+use Rattle.kv_model.specs.Lookup.{AreItemsSoFar}
 use Rattle.kv_model.specs.Lookup.{is_behind, is_up_to}
 use Rattle.kv_model.proofs.PairwiseLemmas.{All-append, All-map, Pairwise-append}
 use Rattle.kv_model.proofs.ContainsLemmas.{Contains-before, Contains-split, All-members}
 use Rattle.std.proofs.lemmas.List.Elements.{Contains-push}
 use Rattle.kv_model.proofs.KeyLemmas.{less-trans, less-apart, behind-otherwise, up_to-splits}
-use Rattle.kv_model.proofs.KeyLemmas.{up_to-less, up_to-itself, less-up_to, up_to-less-trans, not-both}
+use Rattle.kv_model.proofs.KeyLemmas.{up_to-less, up_to-itself, less-up_to, up_to-less-trans}
+use Rattle.kv_model.proofs.KeyLemmas.{not-both}
 
 -- the next item stays it where the write's key isn't looked for, or isn't less
 pub next-stays : (lookup : Lookup) (seen : List Write) (next : Option KeyValue) (write : Write)
@@ -128,7 +132,10 @@ pub items-grow : (lookup : Lookup) (items : List KeyValue) (next : KeyValue)
     → AreItemsSoFar lookup items → IsLeastOf lookup lookup.history next
     → AreItemsSoFar (behind_key lookup next.0) (items ++ next ∷ [])
 items-grow lookup items next are least = record {
-  rising = Pairwise-append (λ item other. IsLess item.0 other.0) items (next ∷ []) are.rising (tt, tt)
+  rising = Pairwise-append (λ item other. IsLess item.0 other.0) items (next ∷ []) are.rising (
+    tt,
+    tt,
+  )
       (All-members (λ item. IsLess item.0 next.0 × Unit {0}) items
       (λ item has. (
         passed-below lookup.last item.0 next.0 ((are.each item).0 has).2

@@ -1,7 +1,10 @@
 -- What stands on the disk with one item.
-use Rattle.std.proofs.Common.{◌≡◌, ℕ, ◌*◌, ◌/◌, ◌%◌, ◌≤◌, ◌<◌, ◌⊎◌, inl, inr, Bool, true, false, cond}
-use Rattle.std.proofs.Common.{List, [], ◌∷◌, Option, None, Some, refl, sym, ap, ◌∙◌, subst, arith, eqb}
-use Rattle.std.proofs.Common.{take, drop, true≢false, ◌&&◌, ◌||◌, ◌==◌, IsTrue, map, nat_le, le-leb, option_and_then}
+use Rattle.std.proofs.Common.{◌≡◌, ℕ, ◌*◌, ◌/◌, ◌%◌, ◌≤◌, ◌<◌, ◌⊎◌, inl, inr, Bool, true, false}
+use Rattle.std.proofs.Common.{cond}
+use Rattle.std.proofs.Common.{List, [], ◌∷◌, Option, None, Some, refl, sym, ap, ◌∙◌, subst, arith}
+use Rattle.std.proofs.Common.{eqb}
+use Rattle.std.proofs.Common.{take, drop, true≢false, ◌&&◌, ◌||◌, ◌==◌, IsTrue, map, nat_le, le-leb}
+use Rattle.std.proofs.Common.{option_and_then}
 use Rattle.std.proofs.Math.Nat.{div-one, mod-one}
 use Rattle.std.proofs.lemmas.Bool.{eqb-true, ne_eqb}
 use Rattle.std.specs.List.{AllByRecursion}

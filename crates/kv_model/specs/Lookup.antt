@@ -1,5 +1,6 @@
 -- How the oracle looks for the next item of a range.
-use Rattle.std.specs.Prelude.{◌≡◌, ◌↔◌, ℕ, List, Option, None, Some, Bool, true, false, IsTrue, IsSome}
+use Rattle.std.specs.Prelude.{◌≡◌, ◌↔◌, ℕ, List, Option, None, Some, Bool, true, false, IsTrue}
+use Rattle.std.specs.Prelude.{IsSome}
 use Rattle.std.specs.Prelude.{Contains, MatchOption}
 use Rattle.std.specs.List.{AllByRecursion}
 use Rattle.std.specs.Ordering.{nat_cmp, is_le, is_lt}

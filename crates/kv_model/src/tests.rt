@@ -15,7 +15,8 @@ ghost use Rattle.kv_model.specs.Examples.{put_and_get, slot_a, tombstone_4, head
 ghost use Rattle.kv_model.specs.Examples.{key_a, value_1};
 ghost use Rattle.kv_model.specs.BatchExamples.{NoNetChange, LastPut, ThirdIsFull, UpdatesWhereFull};
 ghost use Rattle.kv_model.specs.BatchExamples.{NoRoomYet, RoomThen, DeletedTwice, LastIsTakenFirst};
-ghost use Rattle.kv_model.specs.RecoveryExamples.{GivesTheItem, RecoversTheFirst, StaleRecoversNone};
+ghost use Rattle.kv_model.specs.RecoveryExamples.{GivesTheItem, RecoversTheFirst};
+ghost use Rattle.kv_model.specs.RecoveryExamples.{StaleRecoversNone};
 
 use super::*;
 use kv_base::{Bytes, NoMemory, Replies, Reply, Request};

@@ -3,11 +3,13 @@ use Rattle.std.proofs.Common.{◌≡◌, [], Some, None, refl, sym, ap, subst, r
 use Rattle.std.specs.Option.{option_copied, option_map}
 use Rattle.kv_model.specs.Oracle.{history_of, items_of, item_seen, lookup_of}
 use Rattle.kv_model.specs.Lookup.{AreItemsSoFar, IsNext, IsLeastOf}
-use Rattle.kv_model.proofs.LookupLemmas.{items-are-all, items-grow, no-items, behind-less, behind_key}
+use Rattle.kv_model.proofs.LookupLemmas.{items-are-all, items-grow, no-items, behind-less}
+use Rattle.kv_model.proofs.LookupLemmas.{behind_key}
 use Rattle.kv_model.proofs.range.items_at.Goals as goal
 
 pub loop-next-init : goal.loop-next-init
-loop-next-init c = subst (AreItemsSoFar (lookup_of (history_of c.args.writes.now) c.args.asked None))
+loop-next-init c = subst (AreItemsSoFar (lookup_of (history_of c.args.writes.now) c.args.asked
+    None))
     (ap items_of (sym c.in_ok-items.ensures.empty)) (no-items _ refl)
 
 pub loop-next-smaller : goal.loop-next-smaller

@@ -1,7 +1,10 @@
 -- Lemmas on the answers to a batch and the writes that they acknowledge.
-use Rattle.std.proofs.Common.{◌≡◌, ◌≢◌, ℕ, suc, ◌+◌, ◌-◌, ◌≤◌, ◌<◌, ◌⊎◌, inl, inr, Bool, true, false, cond}
-use Rattle.std.proofs.Common.{List, [], ◌∷◌, ◌++◌, Option, None, Some, refl, ap, sym, ◌∙◌, subst, arith}
-use Rattle.std.proofs.Common.{append_assoc, append-nil, option_and_then, option_to_list, length, is_some}
+use Rattle.std.proofs.Common.{◌≡◌, ◌≢◌, ℕ, suc, ◌+◌, ◌-◌, ◌≤◌, ◌<◌, ◌⊎◌, inl, inr, Bool, true}
+use Rattle.std.proofs.Common.{false, cond}
+use Rattle.std.proofs.Common.{List, [], ◌∷◌, ◌++◌, Option, None, Some, refl, ap, sym, ◌∙◌, subst}
+use Rattle.std.proofs.Common.{arith}
+use Rattle.std.proofs.Common.{append_assoc, append-nil, option_and_then, option_to_list, length}
+use Rattle.std.proofs.Common.{is_some}
 use Rattle.std.proofs.Common.{MatchOption, IsTrue, true≢false}
 use Rattle.std.specs.List.{AllByRecursion, cons_option}
 use Rattle.std.specs.Option.{option_or}
@@ -14,7 +17,8 @@ use Rattle.kv_model.specs.History.{Write, value_at}
 use Rattle.kv_model.specs.Layout.{Layout, class_of}
 use Rattle.kv_model.specs.Pairs.{written, acknowledged_by, stamp_of, stamps, writes}
 use Rattle.kv_model.specs.Agreement.{IsAnswer, IsMapAnswer, IsRead, refusal_of}
-use Rattle.kv_model.specs.Batch.{Start, last_write, value_or, value_after, is_full, full_class, accepted}
+use Rattle.kv_model.specs.Batch.{Start, last_write, value_or, value_after, is_full, full_class}
+use Rattle.kv_model.specs.Batch.{accepted}
 use Rattle.kv_model.specs.Batch.{behind, accepted_writes, answers, reply_of, put_reply, get_reply}
 use Rattle.kv_model.specs.Batch.{delete_reply}
 use Rattle.kv_model.specs.Items.{SameValue}
@@ -215,7 +219,8 @@ acknowledged-reads (request ∷ requests) start writes stamp key before has =
     (value_or (last_write writes key) before)
     ∙ ap (value_or (last_write rest key)) (by (acknowledged_here start writes stamp request)
     (accepted start writes stamp request) (kinds request start writes stamp)
-    ∙ sym (value_or-append writes (option_to_list (accepted start writes stamp request)) key before))
+    ∙ sym (value_or-append writes (option_to_list (accepted start writes stamp request)) key
+    before))
     ∙ acknowledged-reads requests start (behind start writes stamp request) (stamp + 1) key before
     has
   where

@@ -152,7 +152,8 @@ parts_same [] [] more rest n e = (refl, e)
 parts_same [] (y ∷ ys) more rest n e = absurd (omega (arith, n))
 parts_same (x ∷ xs) [] more rest n e = absurd (omega (arith, n))
 parts_same (x ∷ xs) (y ∷ ys) more rest n e =
-    let behind = parts_same xs ys more rest (omega (arith, n)) (rests x y (xs ++ more) (ys ++ rest) e)
+    let behind = parts_same xs ys more rest (omega (arith, n)) (rests x y (xs ++ more) (ys ++ rest)
+    e)
     in (both x y xs ys (firsts x y (xs ++ more) (ys ++ rest) e) behind.0, behind.1)
 
 -- pairs with the same requests and replies are the same

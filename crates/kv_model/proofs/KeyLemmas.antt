@@ -8,7 +8,7 @@ use Rattle.std.proofs.lemmas.Cmp.{nat_list_cmp_total}
 use Rattle.std.proofs.lemmas.Map.Text.{is_eq-slice_cmp}
 use Rattle.std.proofs.lemmas.Slice.Eq.{bytes_eq-Decides}
 use Rattle.kv_model.specs.Items.{IsLess}
-use Rattle.kv_model.specs.Lookup.{IsUpTo}
+use Rattle.kv_model.specs.Lookup.{IsAtMost}
 
 less-is : (o : Ordering) → is_lt o ≡ true → o ≡ Less
 less-is Less e = refl
@@ -37,7 +37,7 @@ behind-otherwise a b e = ap is_lt (nat_list_cmp_total.antisymm b a
     greater Equal h = absurd (true≢false h)
     greater Greater h = refl
 
-pub up_to-splits : (a b : List ℕ) → IsUpTo a b → (a ≡ b) ⊎ IsLess a b
+pub up_to-splits : (a b : List ℕ) → IsAtMost a b → (a ≡ b) ⊎ IsLess a b
 up_to-splits a b le = by (slice_cmp nat_cmp a b) refl le
   where
     by : (o : Ordering) → slice_cmp nat_cmp a b ≡ o → is_le o ≡ true → (a ≡ b) ⊎ IsLess a b
@@ -45,20 +45,20 @@ up_to-splits a b le = by (slice_cmp nat_cmp a b) refl le
     by Equal e h = inl (one_key a b e)
     by Greater e h = absurd (true≢false (sym h))
 
-pub up_to-less : (a b : List ℕ) → IsLess a b → IsUpTo a b
+pub up_to-less : (a b : List ℕ) → IsLess a b → IsAtMost a b
 up_to-less a b less = ap is_le (less-is (slice_cmp nat_cmp a b) less)
 
-pub up_to-itself : (a : List ℕ) → IsUpTo a a
+pub up_to-itself : (a : List ℕ) → IsAtMost a a
 up_to-itself a = ap is_le (tied_itself nat_list_cmp_total a)
 
-pub less-up_to : (a b c : List ℕ) → IsLess a b → IsUpTo b c → IsLess a c
+pub less-up_to : (a b c : List ℕ) → IsLess a b → IsAtMost b c → IsLess a c
 less-up_to a b c less le = by (up_to-splits b c le)
   where
     by : (b ≡ c) ⊎ IsLess b c → IsLess a c
     by (inl same) = subst (IsLess a) same less
     by (inr more) = less-trans a b c less more
 
-pub up_to-less-trans : (a b c : List ℕ) → IsUpTo a b → IsLess b c → IsLess a c
+pub up_to-less-trans : (a b c : List ℕ) → IsAtMost a b → IsLess b c → IsLess a c
 up_to-less-trans a b c le less = by (up_to-splits a b le)
   where
     by : (a ≡ b) ⊎ IsLess a b → IsLess a c
@@ -66,5 +66,5 @@ up_to-less-trans a b c le less = by (up_to-splits a b le)
     by (inr more) = less-trans a b c more less
 
 -- a key isn't up to one that is less
-pub not-both : (a b : List ℕ) → IsUpTo a b → IsLess b a → ⊥
+pub not-both : (a b : List ℕ) → IsAtMost a b → IsLess b a → ⊥
 not-both a b le less = less-apart a (up_to-less-trans a b a le less)

@@ -26,7 +26,8 @@ no-some a e = absurd (true≢false (sym (ap is_some e)))
 pub find-holds : (test : ℕ → Bool) (xs : List ℕ) (x : ℕ) → find test xs ≡ Some x
     → Contains xs x × (test x ≡ true)
 find-holds test [] x is = absurd (no-some x is)
-find-holds test (first ∷ rest) x is = by (test first) refl is (λ later. find-holds test rest x later)
+find-holds test (first ∷ rest) x is = by (test first) refl is (λ later. find-holds test rest x
+    later)
   where
     by : (passes : Bool) → test first ≡ passes → cond passes (Some first) (find test rest) ≡ Some x
         → (find test rest ≡ Some x → Contains rest x × (test x ≡ true))

@@ -14,3 +14,5 @@ pub mod ContainsLemmas
 pub mod KeyLemmas
 pub mod LookupLemmas
 pub mod OracleLemmas
+pub mod RecoveryLemmas
+pub mod ItemLemmas

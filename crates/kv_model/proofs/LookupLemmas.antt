@@ -1,6 +1,8 @@
 -- Lemmas on looking for the next item.
-use Rattle.std.proofs.Common.{◌≡◌, ℕ, ◌+◌, ◌≤◌, ◌<◌, ◌⊎◌, inl, inr, Bool, true, false, cond, List, []}
-use Rattle.std.proofs.Common.{◌∷◌, ◌++◌, Option, None, Some, refl, sym, ap, ◌∙◌, subst, arith, is_some}
+use Rattle.std.proofs.Common.{◌≡◌, ℕ, ◌+◌, ◌≤◌, ◌<◌, ◌⊎◌, inl, inr, Bool, true, false, cond, List}
+use Rattle.std.proofs.Common.{[]}
+use Rattle.std.proofs.Common.{◌∷◌, ◌++◌, Option, None, Some, refl, sym, ap, ◌∙◌, subst, arith}
+use Rattle.std.proofs.Common.{is_some}
 use Rattle.std.proofs.Common.{true≢false, IsTrue, IsSome, Contains, ◌&&◌, nat_le, option_and_then}
 use Rattle.std.specs.List.{AllByRecursion, count_by}
 use Rattle.std.specs.Str.{bytes_eq}
@@ -11,13 +13,15 @@ use Rattle.std.proofs.lemmas.List.Sums.{sum_by-cons}
 use Rattle.kv_model.specs.Pairwise.{Pairwise}
 use Rattle.kv_model.specs.History.{Write, latest, later_of, value_at}
 use Rattle.kv_model.specs.Items.{KeyValue, AreItems, IsLess, is_in_range}
-use Rattle.kv_model.specs.Lookup.{Lookup, IsWanted, IsLeastOf, IsNext, IsUpTo, IsPassed, AreItemsUpTo}
+use Rattle.kv_model.specs.Lookup.{Lookup, IsWanted, IsLeastOf, IsNext, IsAtMost, IsPassed}
+use Rattle.kv_model.specs.Lookup.{AreItemsSoFar}
 use Rattle.kv_model.specs.Lookup.{is_behind, is_up_to}
 use Rattle.kv_model.proofs.PairwiseLemmas.{All-append, All-map, Pairwise-append}
 use Rattle.kv_model.proofs.ContainsLemmas.{Contains-before, Contains-split, All-members}
 use Rattle.std.proofs.lemmas.List.Elements.{Contains-push}
 use Rattle.kv_model.proofs.KeyLemmas.{less-trans, less-apart, behind-otherwise, up_to-splits}
-use Rattle.kv_model.proofs.KeyLemmas.{up_to-less, up_to-itself, less-up_to, up_to-less-trans, not-both}
+use Rattle.kv_model.proofs.KeyLemmas.{up_to-less, up_to-itself, less-up_to, up_to-less-trans}
+use Rattle.kv_model.proofs.KeyLemmas.{not-both}
 
 -- the next item stays it where the write's key isn't looked for, or isn't less
 pub next-stays : (lookup : Lookup) (seen : List Write) (next : Option KeyValue) (write : Write)
@@ -29,7 +33,7 @@ next-stays lookup seen None write is up_to =
 next-stays lookup seen (Some item) write is up_to = record {
   wanted = is.wanted;
   value = is.value;
-  least = All-append (λ w. IsWanted lookup w.key → IsUpTo item.0 w.key) seen (write ∷ []) is.least
+  least = All-append (λ w. IsWanted lookup w.key → IsAtMost item.0 w.key) seen (write ∷ []) is.least
       (up_to, tt);
 }
 
@@ -42,17 +46,17 @@ pub next-nearer : (lookup : Lookup) (seen : List Write) (next : Option KeyValue)
 next-nearer lookup seen next write value is wanted has nearer = record {
   wanted = wanted;
   value = has;
-  least = All-append (λ w. IsWanted lookup w.key → IsUpTo write.key w.key) seen (write ∷ [])
+  least = All-append (λ w. IsWanted lookup w.key → IsAtMost write.key w.key) seen (write ∷ [])
       (before next is nearer) ((λ again. up_to-itself write.key), tt);
 } where
   before : (other : Option KeyValue) → IsNext lookup seen other
       → is_up_to other write.key ≡ false
-      → AllByRecursion (λ w. IsWanted lookup w.key → IsUpTo write.key w.key) seen
+      → AllByRecursion (λ w. IsWanted lookup w.key → IsAtMost write.key w.key) seen
   before None none e = All-map (λ w. IsWanted lookup w.key → ⊥)
-      (λ w. IsWanted lookup w.key → IsUpTo write.key w.key) seen (λ w no good. absurd (no good))
+      (λ w. IsWanted lookup w.key → IsAtMost write.key w.key) seen (λ w no good. absurd (no good))
       none
-  before (Some item) least e = All-map (λ w. IsWanted lookup w.key → IsUpTo item.0 w.key)
-      (λ w. IsWanted lookup w.key → IsUpTo write.key w.key) seen
+  before (Some item) least e = All-map (λ w. IsWanted lookup w.key → IsAtMost item.0 w.key)
+      (λ w. IsWanted lookup w.key → IsAtMost write.key w.key) seen
       (λ w le good. up_to-less write.key w.key (less-up_to write.key item.0 w.key
       (behind-otherwise item.0 write.key e) (le good))) least.least
 
@@ -77,7 +81,7 @@ passed-or-behind None key = inr refl
 passed-or-behind (Some last) key = by (is_le (slice_cmp nat_cmp key last)) refl
   where
     by : (le : Bool) → is_le (slice_cmp nat_cmp key last) ≡ le
-        → IsUpTo key last ⊎ IsLess last key
+        → IsAtMost key last ⊎ IsLess last key
     by true e = inl e
     by false e = inr (behind-otherwise key last e)
 
@@ -87,7 +91,7 @@ passed-below None key next passed behind = absurd passed
 passed-below (Some last) key next passed behind = up_to-less-trans key last next passed behind
 
 -- where nothing more is looked for, the items are all
-pub items-are-all : (lookup : Lookup) (items : List KeyValue) → AreItemsUpTo lookup items
+pub items-are-all : (lookup : Lookup) (items : List KeyValue) → AreItemsSoFar lookup items
     → IsNext lookup lookup.history None
     → AreItems lookup.history lookup.stamp lookup.low lookup.high items
 items-are-all lookup items are none = record {
@@ -114,7 +118,7 @@ abbrev pub behind_key : Lookup → List ℕ → Lookup
 behind_key lookup key = record lookup { last = Some key }
 
 -- before anything was found
-pub no-items : (lookup : Lookup) → lookup.last ≡ None → AreItemsUpTo lookup []
+pub no-items : (lookup : Lookup) → lookup.last ≡ None → AreItemsSoFar lookup []
 no-items lookup none = record {
   rising = tt;
   each = λ item. (
@@ -125,10 +129,13 @@ no-items lookup none = record {
 
 -- with the next item there are all items up to its key
 pub items-grow : (lookup : Lookup) (items : List KeyValue) (next : KeyValue)
-    → AreItemsUpTo lookup items → IsLeastOf lookup lookup.history next
-    → AreItemsUpTo (behind_key lookup next.0) (items ++ next ∷ [])
+    → AreItemsSoFar lookup items → IsLeastOf lookup lookup.history next
+    → AreItemsSoFar (behind_key lookup next.0) (items ++ next ∷ [])
 items-grow lookup items next are least = record {
-  rising = Pairwise-append (λ item other. IsLess item.0 other.0) items (next ∷ []) are.rising (tt, tt)
+  rising = Pairwise-append (λ item other. IsLess item.0 other.0) items (next ∷ []) are.rising (
+    tt,
+    tt,
+  )
       (All-members (λ item. IsLess item.0 next.0 × Unit {0}) items
       (λ item has. (
         passed-below lookup.last item.0 next.0 ((are.each item).0 has).2
@@ -142,14 +149,14 @@ items-grow lookup items next are least = record {
 } where
   there : (item : KeyValue) → Contains items item ⊎ (next ≡ item)
       → IsTrue (is_in_range lookup.low lookup.high item.0)
-      × (value_at lookup.history lookup.stamp item.0 ≡ Some item.1) × IsUpTo item.0 next.0
+      × (value_at lookup.history lookup.stamp item.0 ≡ Some item.1) × IsAtMost item.0 next.0
   there item (inl has) = let known = (are.each item).0 has in (
     known.0,
     known.1,
     up_to-less item.0 next.0 (passed-below lookup.last item.0 next.0 known.2 least.wanted.behind),
   )
   there item (inr same) = subst (λ i. IsTrue (is_in_range lookup.low lookup.high i.0)
-      × (value_at lookup.history lookup.stamp i.0 ≡ Some i.1) × IsUpTo i.0 next.0) same
+      × (value_at lookup.history lookup.stamp i.0 ≡ Some i.1) × IsAtMost i.0 next.0) same
       (least.wanted.inside, least.value, up_to-itself next.0)
 
   same_value : (a b : List ℕ) → Some a ≡ Some b → a ≡ b
@@ -173,7 +180,7 @@ items-grow lookup items next are least = record {
           → Contains (items ++ next ∷ []) item
       by (inl passed) = Contains-before items next item ((are.each item).1 (inside, value, passed))
       by (inr behind) = absurd (not-both next.0 item.0 (written-key (λ key. IsWanted lookup key
-          → IsUpTo next.0 key) lookup.history lookup.stamp item.0 (ap is_some value) least.least
+          → IsAtMost next.0 key) lookup.history lookup.stamp item.0 (ap is_some value) least.least
           (record { inside = inside; behind = behind; has = ap is_some value })) less)
 
 count-le : (p q : List ℕ → Bool) (writes : List Write) → ((key : List ℕ) → p key ≡ true

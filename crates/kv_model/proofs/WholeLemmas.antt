@@ -1,5 +1,6 @@
 -- A run with the answers to one more batch behind it agrees with one plain map.
-use Rattle.std.proofs.Common.{◌≡◌, ◌≢◌, ℕ, suc, ◌+◌, ◌-◌, ◌^◌, ◌≤◌, ◌<◌, Bool, true, false, List, []}
+use Rattle.std.proofs.Common.{◌≡◌, ◌≢◌, ℕ, suc, ◌+◌, ◌-◌, ◌^◌, ◌≤◌, ◌<◌, Bool, true, false, List}
+use Rattle.std.proofs.Common.{[]}
 use Rattle.std.proofs.Common.{◌∷◌, ◌++◌, Option, None, Some, refl, ap, sym, ◌∙◌, subst, arith}
 use Rattle.std.proofs.Common.{append_assoc, append-nil, option_and_then, option_to_list, length}
 use Rattle.std.proofs.Common.{MatchOption, is_some, IsTrue}
@@ -23,7 +24,8 @@ use Rattle.kv_model.proofs.AnswersLemmas.{HasStamp, HasStamp-reply, acknowledged
 use Rattle.kv_model.proofs.AnswersLemmas.{RiseBetween-acknowledged_in}
 use Rattle.kv_model.proofs.AgreementLemmas.{value-append-above, AllFrom-weaken, answers-agree}
 
-All-both : {X : Type 0} (P : X → Type 0) (xs ys : List X) → AllByRecursion P xs → AllByRecursion P ys
+All-both : {X : Type 0} (P : X → Type 0) (xs ys : List X) → AllByRecursion P xs → AllByRecursion P
+    ys
     → AllByRecursion P (xs ++ ys)
 All-both P [] ys first second = second
 All-both P (x ∷ xs) ys first second = (first.0, All-both P xs ys first.1 second)
@@ -46,7 +48,8 @@ IsBelowStamp base pair = MatchOption (stamp_of pair.reply) (Unit {0}) (λ stamp.
 stamps-below : (pairs : List Pair) (base : ℕ) → AllByRecursion (IsBelowStamp base) pairs
     → AllByRecursion (λ stamp. stamp < base) (stamps pairs)
 stamps-below [] base all = tt
-stamps-below (pair ∷ pairs) base all = by (stamp_of pair.reply) all.0 (stamps-below pairs base all.1)
+stamps-below (pair ∷ pairs) base all = by (stamp_of pair.reply) all.0 (stamps-below pairs base
+    all.1)
   where
     by : (stamp : Option ℕ) → MatchOption stamp (Unit {0}) (λ s. s < base)
         → AllByRecursion (λ s. s < base) (stamps pairs)
@@ -176,7 +179,8 @@ agrees-with-more told layout before floor pairs base start requests agrees same 
     stamps-within requests start [] base in
     let split : stamps (pairs ++ new) ≡ stamps pairs ++ stamps new =
     filter_map-append (λ pair. stamp_of pair.reply) pairs new in
-    let old : AllByRecursion (λ s. s < base) (stamps pairs) = stamps-below pairs base earlier_below in
+    let old : AllByRecursion (λ s. s < base) (stamps pairs) = stamps-below pairs base earlier_below
+    in
     let more : before ++ writes (pairs ++ new) ≡ (before ++ writes pairs) ++ writes new =
     ap (λ all. before ++ all) (filter_map-append acknowledged pairs new)
     ∙ sym (append_assoc before (writes pairs) (writes new)) in

@@ -1,6 +1,7 @@
 -- The items that a history has at a stamp, and what a batch finds there.
 use Rattle.std.specs.Prelude.{◌≡◌, ℕ, ◌-◌, ◌==◌, List, [], ◌∷◌, length, filter, count_by, Contains}
-use Rattle.std.specs.Prelude.{Option, None, Some, Bool, true, IsTrue, ◌↔◌, ◌&&◌, ◌||◌, ◌++◌, ⊤, option_and_then}
+use Rattle.std.specs.Prelude.{Option, None, Some, Bool, true, IsTrue, ◌↔◌, ◌&&◌, ◌||◌, ◌++◌, ⊤}
+use Rattle.std.specs.Prelude.{option_and_then}
 use Rattle.std.specs.Ordering.{nat_cmp, is_le, is_lt}
 use Rattle.std.specs.Cmp.Lexicographic.{slice_cmp}
 use Rattle.kv_base.specs.declared.request.Request.{Request}
@@ -93,3 +94,15 @@ pub record AnswersBatch (before after : List Write) (base limit : ℕ) (requests
   pub limit_is : start.limit ≡ limit
   pub replies_are : replies ≡ answers start [] base requests
   pub taken : after ≡ before ++ net start (accepted_writes start [] base requests)
+
+-- a history has one list of items in a range at a stamp
+abbrev pub ItemsAreOne : Type 0
+ItemsAreOne = (history : List Write) (stamp : ℕ) (low high : List ℕ) (items others : List KeyValue)
+    → AreItems history stamp low high items → AreItems history stamp low high others
+    → items ≡ others
+
+-- a batch has one list of replies, and one list of writes behind it
+abbrev pub OneAnswer : Type 0
+OneAnswer = (before after also : List Write) (base limit : ℕ) (requests : List Request)
+    (replies others : List Reply) → AnswersBatch before after base limit requests replies
+    → AnswersBatch before also base limit requests others → (replies ≡ others) × (after ≡ also)

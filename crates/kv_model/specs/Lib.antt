@@ -22,3 +22,4 @@ pub mod Lookup
 pub mod Oracle
 pub mod Examples
 pub mod BatchExamples
+pub mod RecoveryExamples

@@ -1,5 +1,6 @@
 -- How the oracle looks for the next item of a range.
-use Rattle.std.specs.Prelude.{◌≡◌, ◌↔◌, ℕ, List, Option, None, Some, Bool, true, false, IsTrue, IsSome}
+use Rattle.std.specs.Prelude.{◌≡◌, ◌↔◌, ℕ, List, Option, None, Some, Bool, true, false, IsTrue}
+use Rattle.std.specs.Prelude.{IsSome}
 use Rattle.std.specs.Prelude.{Contains, MatchOption}
 use Rattle.std.specs.List.{AllByRecursion}
 use Rattle.std.specs.Ordering.{nat_cmp, is_le, is_lt}
@@ -28,8 +29,8 @@ is_up_to None key = false
 is_up_to (Some item) key = is_le (slice_cmp nat_cmp item.0 key)
 
 -- the first key is at or before the second
-abbrev pub IsUpTo : List ℕ → List ℕ → Type 0
-IsUpTo key other = IsTrue (is_le (slice_cmp nat_cmp key other))
+abbrev pub IsAtMost : List ℕ → List ℕ → Type 0
+IsAtMost key other = IsTrue (is_le (slice_cmp nat_cmp key other))
 
 -- the key is looked for
 pub record IsWanted (lookup : Lookup) (key : List ℕ) : Type 0 where
@@ -41,7 +42,7 @@ pub record IsWanted (lookup : Lookup) (key : List ℕ) : Type 0 where
 pub record IsLeastOf (lookup : Lookup) (writes : List Write) (item : KeyValue) : Type 0 where
   pub wanted : IsWanted lookup item.0
   pub value : value_at lookup.history lookup.stamp item.0 ≡ Some item.1
-  pub least : AllByRecursion (λ write. IsWanted lookup write.key → IsUpTo item.0 write.key) writes
+  pub least : AllByRecursion (λ write. IsWanted lookup write.key → IsAtMost item.0 write.key) writes
 
 -- the next item as far as these writes tell, or none
 abbrev pub IsNext : Lookup → List Write → Option KeyValue → Type 0
@@ -51,10 +52,10 @@ IsNext lookup writes next = MatchOption next
 -- the key isn't behind the last one that was found
 abbrev pub IsPassed : Option (List ℕ) → List ℕ → Type 0
 IsPassed None key = ⊥
-IsPassed (Some last) key = IsUpTo key last
+IsPassed (Some last) key = IsAtMost key last
 
 -- the items of the range up to the last key, by rising key
-pub record AreItemsUpTo (lookup : Lookup) (items : List KeyValue) : Type 0 where
+pub record AreItemsSoFar (lookup : Lookup) (items : List KeyValue) : Type 0 where
   pub rising : Pairwise (λ item next. IsLess item.0 next.0) items
   pub each : (item : KeyValue) → Contains items item ↔ (IsTrue (is_in_range lookup.low lookup.high
       item.0) × (value_at lookup.history lookup.stamp item.0 ≡ Some item.1)

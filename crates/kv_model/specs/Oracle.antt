@@ -53,7 +53,8 @@ start_of found = record {
   layout = all_classes;
   limit = found.limit;
   value = λ key. value_at (history_of found.writes.now) found.stamp key;
-  class = λ key. class_with all_classes key (value_at (history_of found.writes.now) found.stamp key);
+  class = λ key. class_with all_classes key
+      (value_at (history_of found.writes.now) found.stamp key);
   items = λ class. count_of_class all_classes class (items_of found.items.now);
 }
 

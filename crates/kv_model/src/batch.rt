@@ -1,7 +1,9 @@
-ghost use Rattle.std.specs.Prelude.{◌≡◌, ◌++◌, ◌+◌, ◌≤◌, ◌^◌, length, IfOk, OnOk, [], ◌∷◌, not, ◌&&◌, count_by};
+ghost use Rattle.std.specs.Prelude.{◌≡◌, ◌++◌, ◌+◌, ◌≤◌, ◌^◌, length, IfOk, OnOk, [], ◌∷◌, not};
+ghost use Rattle.std.specs.Prelude.{◌&&◌, count_by};
 ghost use Rattle.std.specs.Str.{bytes_eq};
 ghost use Rattle.kv_base.specs.declared.request.Request.TheVariants.{Put, Get, Delete};
-ghost use Rattle.kv_model.specs.Batch.{answers, accepted_writes, taken_by_others, full_class, reply_of, behind};
+ghost use Rattle.kv_model.specs.Batch.{answers, accepted_writes, taken_by_others, full_class};
+ghost use Rattle.kv_model.specs.Batch.{reply_of, behind};
 ghost use Rattle.kv_model.specs.Batch.{takes_slot};
 ghost use Rattle.kv_model.specs.Oracle.{history_of, write_of, start_of, seen_of};
 
@@ -12,8 +14,8 @@ use crate::write::{Recorded, record};
 use kv_base::{Bytes, NoMemory, Replies, Reply, Request};
 use std::alloc::Global;
 
-/// Answers the requests of a batch in order, and puts the writes that they accept behind the others.
-/// The one error is want of memory.
+/// Answers the requests of a batch in order, and puts the writes that they accept behind the
+/// others. The one error is want of memory.
 pub fn answer_all(
     alloc: Global,
     found: Found<'_>,

@@ -53,7 +53,8 @@ fn nearer<'a>(
     write: &'a Recorded,
 ) -> Option<ItemSeen<'a>>
     ensures { (seen : List Write) (lookup : Lookup) → lookup ≡ lookup_of (history_of writes.now)
-        asked.entry (option_copied last.entry) → IsNext lookup seen (option_map item_seen next.entry)
+        asked.entry (option_copied last.entry) → IsNext lookup seen (option_map item_seen
+        next.entry)
         → IsNext lookup (seen ++ write_of write.now ∷ []) (option_map item_seen result) }
 {
     let key = write.key.as_slice();

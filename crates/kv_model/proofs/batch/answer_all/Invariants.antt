@@ -6,7 +6,8 @@ use Rattle.kv_model.proofs.batch.answer_all.Given as goal
 
 abbrev pub invariant-loop-i : goal.invariant-loop-i
 invariant-loop-i l = record {
-  replies : l.replies.items ++ answers (start_of l.found) (history_of l.written.items) (l.base + l.i)
+  replies : l.replies.items ++ answers (start_of l.found) (history_of l.written.items) (l.base +
+      l.i)
       (drop l.i l.requests)
       ≡ answers (start_of l.found) (history_of l.fn.written.items) l.base l.requests;
   written : accepted_writes (start_of l.found) (history_of l.written.items) (l.base + l.i)

@@ -20,4 +20,5 @@ returns-in-Some c = λ seen lookup e. rw e (λ is.
     ≡ Some c.in-Some.value.now = sym (ap (option_and_then (λ w. w.value)) c.find_latest.ensures)
     ∙ sym c.value_of.ensures ∙ ap option_copied c.in-Some.is in
     nearer-found _ seen (option_map item_seen c.args.next) (write_of c.args.write.now)
-    c.as_slice-key.result.now c.in-Some.value.now c.as_slice-key.ensures is inside behind nearer has)
+    c.as_slice-key.result.now c.in-Some.value.now c.as_slice-key.ensures is inside behind nearer
+    has)

@@ -1,7 +1,7 @@
-use Rattle.std.proofs.Common.{◌≡◌, ◌<◌, List, [], ◌∷◌, ◌++◌, length, sym, ap, ◌∙◌, subst, arith}
+use Rattle.std.proofs.Common.{◌≡◌, List, [], ◌∷◌, ◌++◌, length, sym, ap, ◌∙◌, arith}
 use Rattle.std.proofs.lemmas.List.{append_assoc}
 use Rattle.std.specs.Global.{Vec}
-use Rattle.kv_tree.specs.Subtree.{Subtree, Pair, IsKid}
+use Rattle.kv_tree.specs.Subtree.{Subtree, Pair}
 use Rattle.kv_tree.proofs.FillLemmas.{IsMerged, merged, same_kind, merge_counts}
 use Rattle.kv_tree.proofs.even.merge.Goals as goal
 

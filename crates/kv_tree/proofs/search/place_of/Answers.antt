@@ -1,7 +1,4 @@
-use Rattle.std.proofs.Common.{◌≡◌, ◌≤◌, ◌<◌, Equal, Less, Greater, length, sym, ap, ◌∙◌, arith}
-use Rattle.std.specs.Ordering.{nat_cmp}
-use Rattle.std.specs.Cmp.Lexicographic.{slice_cmp}
-use Rattle.kv_tree.specs.Subtree.{Pair}
+use Rattle.std.proofs.Common.{Equal, Greater, arith}
 use Rattle.kv_tree.proofs.SearchLemmas.{at_place, gap_place, turned}
 use Rattle.kv_tree.proofs.search.place_of.Goals as goal
 

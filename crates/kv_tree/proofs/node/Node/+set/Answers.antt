@@ -1,12 +1,11 @@
-use Rattle.std.proofs.Common.{◌≡◌, ◌+◌, ◌<◌, ◌≤◌, length, set, Some, IfNone, is_some, sym, ap, ◌∙◌}
+use Rattle.std.proofs.Common.{◌≡◌, ◌+◌, ◌<◌, ◌≤◌, length, set, is_some, sym, ap, ◌∙◌}
 use Rattle.std.proofs.Common.{subst, suc, add-one, arith}
 use Rattle.std.specs.List.{insert}
 use Rattle.kv_index.proofs.PlacesLemmas.{at-lt, gap-le}
 use Rattle.std.proofs.lemmas.Cmp.{nat_list_cmp_total}
 use Rattle.kv_index.specs.declared.entry.Entry.{Entry}
 use Rattle.kv_tree.specs.Subtree.{Subtree, IsKid, subtree, nodes_in, inner_over}
-use Rattle.kv_tree.proofs.FillLemmas.{node_kid}
-use Rattle.kv_tree.proofs.WeaveLemmas.{own_rising, AtKid, at_kid, at_item, find_item, find_focus}
+use Rattle.kv_tree.proofs.WeaveLemmas.{own_rising, at_kid, at_item, find_item, find_focus}
 use Rattle.kv_tree.proofs.WeaveLemmas.{find_leaf}
 use Rattle.kv_tree.proofs.SetLemmas.{put_own, shape_set, length_set, Grown, grown_kid, grown_split}
 use Rattle.kv_tree.proofs.SetLemmas.{grown_nodes, grown_inner, split_nodes, split_inner, grown_leaf}

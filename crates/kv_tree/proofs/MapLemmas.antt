@@ -185,7 +185,8 @@ some_next q es x rising is =
                 ∙ ap ordering_reverse after in
                 let none = get_is es other rising ∙ ap (find order other) f.is
                 ∙ find_past other a (x ∷ b) (past_upto_key q other a up f.past)
-                ∙ find_none other (x ∷ b) (below_from other x b (rises_right a (x ∷ b) rises) before) in
+                ∙ find_none other (x ∷ b) (below_from other x b (rises_right a (x ∷ b) rises)
+                before) in
                 absurd (false≢true (subst (λ (o : Option Entry). IsSome o) none some))
           ] refl;
     }
@@ -250,7 +251,8 @@ module _ (tree : Option Indexed) (s : Indexed) (view : indexed_of tree ≡ s) (n
     nothing_found q = ap (λ (i : Indexed). finite.get i.entries q) (sym nothing) ∙ get-empty order q
 
     pub nothing_counted : finite.len s.entries ≡ 0
-    nothing_counted = ap (λ (i : Indexed). finite.len i.entries) (sym nothing) ∙ len-empty order Entry
+    nothing_counted = ap (λ (i : Indexed). finite.len i.entries) (sym nothing)
+        ∙ len-empty order Entry
 
     pub nothing_removed : (q : List ℕ) → finite.remove s.entries q ≡ s.entries
     nothing_removed q =

@@ -14,7 +14,8 @@ use Rattle.kv_index.specs.Places.{HasRisingKeys, IsAt, IsGap}
 use Rattle.kv_index.proofs.EntriesLemmas.{one_key}
 use Rattle.kv_index.proofs.PlacesLemmas.{at_ties, at-lt, gap-le, find_gap, both, first, second}
 use Rattle.kv_index.proofs.PlacesLemmas.{less, is_less, by}
-use Rattle.kv_tree.specs.Subtree.{Past, Pair, Subtree, weave, behind, IsShape, IsNode, IsKid, AreKids}
+use Rattle.kv_tree.specs.Subtree.{Past, Pair, Subtree, weave, behind, IsShape, IsNode, IsKid}
+use Rattle.kv_tree.specs.Subtree.{AreKids}
 use Rattle.kv_tree.specs.Subtree.{subtree, depth_over, level_of, next_from}
 
 abbrev pub order : List ℕ → List ℕ → Ordering

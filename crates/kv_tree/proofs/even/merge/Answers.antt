@@ -44,7 +44,8 @@ invariant_of-left c =
       kid_room = λ some. omega (
         arith,
         c.left.invariant.kid_room
-            (same_kind (c.left.inside.kids.items ++ c.right.inside.kids.items) c.left.inside.kids.items
+            (same_kind (c.left.inside.kids.items ++ c.right.inside.kids.items)
+            c.left.inside.kids.items
             k.kid.depth some),
         c.join_kids.ensures.capacity,
       );

@@ -92,7 +92,8 @@ invariant_of-right c =
       kid_room = λ some. omega (
         arith,
         c.right.invariant.kid_room
-            (same_kind c.move_last.new.to.items c.right.inside.kids.items (k.right.depth ∙ sym k.same)
+            (same_kind c.move_last.new.to.items c.right.inside.kids.items
+            (k.right.depth ∙ sym k.same)
             some),
         c.move_last.ensures.capacity,
       );

@@ -7,7 +7,8 @@ pub returns-then-at-items-clause-absent : goal.returns-then-at-items-clause-abse
 returns-then-at-items-clause-absent c =
     gap_place c.args.key.now c.args.items.now c.count_below-at.result
     (c.args.key.now, record { stamp = 0; place = record { class = 0; slot = 0 } })
-    (c.count_below-at.ensures.past c.args.key.now c.requires.number) (omega arith) (λ lt. absurd (omega arith))
+    (c.count_below-at.ensures.past c.args.key.now c.requires.number) (omega arith)
+    (λ lt. absurd (omega arith))
 
 -- it stands where the items before it end
 pub returns-in-Equal-clause-found : goal.returns-in-Equal-clause-found

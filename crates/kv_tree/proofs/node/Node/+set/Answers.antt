@@ -47,7 +47,8 @@ set-found-requires t c =
     let some : 0 < length c.self.inside.kids.items = omega (arith, c.self.inside.kids.ok.0) in
     let k = at_kid _ _ _ _ _ _ _ _ c.self.view_is c.self.invariant c.requires.rising gap some
     c.index_mut-kid.ensures.value in
-    let le : c.in-Err.at ≤ length c.self.inside.items.items = gap-le nat_list_cmp_total _ _ _ gap in (
+    let le : c.in-Err.at ≤ length c.self.inside.items.items = gap-le nat_list_cmp_total _ _ _
+    gap in (
       omega (arith, k.falls),
       (
         k.rising,
@@ -57,10 +58,12 @@ set-found-requires t c =
             k.fits.high,
             (
               kid_room _ _ _ _ _ c.args.pool.now c.self.view_is c.self.invariant.kids
-                  c.self.invariant.shape (omega (arith, k.lengths)) c.index_mut-kid.ensures.value k.fits
+                  c.self.invariant.shape (omega (arith, k.lengths)) c.index_mut-kid.ensures.value
+                  k.fits
                   c.requires.room,
               kid_width _ _ _ _ _ c.args.pool.now c.self.view_is c.self.invariant.kids
-                  c.self.invariant.shape (omega (arith, k.lengths)) c.index_mut-kid.ensures.value k.fits
+                  c.self.invariant.shape (omega (arith, k.lengths)) c.index_mut-kid.ensures.value
+                  k.fits
                   c.requires.width,
             ),
           ),

@@ -8,8 +8,8 @@ use kv_base::NoMemory;
 use std::alloc::Global;
 use std::marker::Model;
 
-/// Nodes that stand ready, so that a change takes no memory. A node gets room for kids only where it
-/// becomes more than a leaf.
+/// Nodes that stand ready, so that a change takes no memory. A node gets room for kids only where
+/// it becomes more than a leaf.
 #[derive(Drop)]
 pub struct Pool {
     nodes: Vec<Node>,

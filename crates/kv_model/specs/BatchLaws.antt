@@ -97,11 +97,13 @@ OldOrNewIsPrefix = (told : Bool) (history : List Write) (base : ℕ) (start : St
     → BeginsAt told history base start → 1 ≤ base
     → AllByRecursion (λ write. write.stamp < base) history
     → (value ≡ start.value key) ⊎ (value ≡ value_after start
-    (net start (accepted_writes start [] base requests)) key) → (stamp : ℕ) × (AllByRecursion (λ write. write.stamp ≤ stamp) history
+    (net start (accepted_writes start [] base requests)) key)
+    → (stamp : ℕ) × (AllByRecursion (λ write. write.stamp ≤ stamp) history
     × SameValue told value (value_at (history ++ net start (accepted_writes start [] base requests))
     stamp key))
 
--- the same holds of replies of which the same is told as of the answers
+-- replies of which the same is told as of the answers keep this too: with them behind it a run
+-- agrees with one plain map
 abbrev pub ToldAnswersAgree : Type 0
 ToldAnswersAgree = (told : Bool) (layout : Layout) (before : List Write) (floor : ℕ)
     (pairs : List Pair) (base : ℕ) (start : Start) (requests : List Request) (replies : List Reply)

@@ -1,37 +1,31 @@
 -- The answers to a batch are those of one plain map.
-use Rattle.std.proofs.Common.{◌≡◌, ◌≢◌, ℕ, suc, ◌+◌, ◌-◌, ◌^◌, ◌≤◌, ◌<◌, ◌⊎◌, inl, inr, Bool, true}
+use Rattle.std.proofs.Common.{◌≡◌, ℕ, ◌+◌, ◌-◌, ◌≤◌, ◌⊎◌, inl, inr, Bool, true}
 use Rattle.std.proofs.Common.{false, cond, List, [], ◌∷◌, ◌++◌, Option, None, Some, refl, ap, sym}
 use Rattle.std.proofs.Common.{◌∙◌}
-use Rattle.std.proofs.Common.{subst, arith, append_assoc, append-nil, option_and_then}
+use Rattle.std.proofs.Common.{subst, arith, append_assoc, option_and_then}
 use Rattle.std.proofs.Common.{option_to_list}
-use Rattle.std.proofs.Common.{length, is_some, MatchOption, IsTrue, IsSome, true≢false, filter_map}
-use Rattle.std.specs.List.{AllByRecursion, cons_option}
-use Rattle.std.specs.Option.{option_or}
+use Rattle.std.proofs.Common.{length, is_some, MatchOption, IsTrue, IsSome, true≢false}
+use Rattle.std.specs.List.{AllByRecursion}
 use Rattle.std.specs.Str.{bytes_eq}
-use Rattle.std.proofs.lemmas.List.Elements.{filter_map-append}
 use Rattle.std.proofs.lemmas.Slice.Eq.{bytes_eq-Decides}
 use Rattle.kv_base.specs.declared.request.Request.{Request}
 use Rattle.kv_base.specs.declared.request.Request.TheVariants.{Put, Get, Delete, Flush}
-use Rattle.kv_base.specs.declared.reply.Reply.{Reply}
-use Rattle.kv_base.specs.declared.reply.Reply.TheVariants.{Stored, Found, Missing, Removed, Absent}
-use Rattle.kv_model.specs.Pairwise.{Pairwise}
 use Rattle.kv_model.specs.History.{Write, value_at}
 use Rattle.kv_model.specs.Layout.{Layout, class_of}
-use Rattle.kv_model.specs.Pairs.{Pair, written, acknowledged, acknowledged_by, stamp_of, stamps}
+use Rattle.kv_model.specs.Pairs.{acknowledged, acknowledged_by}
 use Rattle.kv_model.specs.Pairs.{writes, key_of}
-use Rattle.kv_model.specs.Agreement.{AgreesWithMap, IsAnswer, IsMapAnswer, IsRead, refusal_of}
+use Rattle.kv_model.specs.Agreement.{IsAnswer, IsMapAnswer, IsRead}
 use Rattle.kv_model.specs.Batch.{Start, last_write, value_or, value_after, is_full, full_class}
 use Rattle.kv_model.specs.Batch.{accepted}
-use Rattle.kv_model.specs.Batch.{behind, accepted_writes, answers, reply_of, put_reply, get_reply}
+use Rattle.kv_model.specs.Batch.{behind, answers, reply_of, put_reply, get_reply}
 use Rattle.kv_model.specs.Batch.{delete_reply, IsTask}
-use Rattle.kv_model.specs.Items.{SameValue, BeginsAt}
-use Rattle.kv_model.specs.BatchLaws.{RiseBetween, AreStamped, pairs_of}
-use Rattle.kv_model.proofs.ReadingLemmas.{AllBelow, AllFrom, RiseBetween-append, RiseBetween-from}
-use Rattle.kv_model.proofs.ReadingLemmas.{option_or-assoc, value_at-rises, latest-append-above}
+use Rattle.kv_model.specs.Items.{SameValue}
+use Rattle.kv_model.specs.BatchLaws.{pairs_of}
+use Rattle.kv_model.proofs.ReadingLemmas.{AllBelow, AllFrom, RiseBetween-from}
+use Rattle.kv_model.proofs.ReadingLemmas.{value_at-rises, latest-append-above}
 use Rattle.kv_model.proofs.ReadingLemmas.{latest-same, AllBelow-append, AllBelow-weaken}
-use Rattle.kv_model.proofs.ReadingLemmas.{RiseBetween-below, RiseBetween-lower}
-use Rattle.kv_model.proofs.NetLemmas.{RiseBetween-accepted, RiseBetween-higher, or_no}
-use Rattle.kv_model.proofs.AnswersLemmas.{HasStamp, HasStamp-reply, IsAbsent, kinds, cons-is}
+use Rattle.kv_model.proofs.ReadingLemmas.{RiseBetween-below}
+use Rattle.kv_model.proofs.AnswersLemmas.{IsAbsent, kinds, cons-is}
 use Rattle.kv_model.proofs.AnswersLemmas.{acknowledged_here, acknowledged_in, value_or-append}
 use Rattle.kv_model.proofs.AnswersLemmas.{RiseBetween-acknowledged, RiseBetween-acknowledged_in}
 

@@ -1,32 +1,26 @@
 -- Lemmas on the answers to a batch and the writes that they acknowledge.
-use Rattle.std.proofs.Common.{◌≡◌, ◌≢◌, ℕ, suc, ◌+◌, ◌-◌, ◌≤◌, ◌<◌, ◌⊎◌, inl, inr, Bool, true}
+use Rattle.std.proofs.Common.{◌≡◌, ℕ, suc, ◌+◌, ◌⊎◌, inl, inr, Bool, true}
 use Rattle.std.proofs.Common.{false, cond}
 use Rattle.std.proofs.Common.{List, [], ◌∷◌, ◌++◌, Option, None, Some, refl, ap, sym, ◌∙◌, subst}
 use Rattle.std.proofs.Common.{arith}
-use Rattle.std.proofs.Common.{append_assoc, append-nil, option_and_then, option_to_list, length}
+use Rattle.std.proofs.Common.{option_to_list, length}
 use Rattle.std.proofs.Common.{is_some}
-use Rattle.std.proofs.Common.{MatchOption, IsTrue, true≢false}
-use Rattle.std.specs.List.{AllByRecursion, cons_option}
+use Rattle.std.proofs.Common.{MatchOption, true≢false}
+use Rattle.std.specs.List.{cons_option}
 use Rattle.std.specs.Option.{option_or}
 use Rattle.std.specs.Str.{bytes_eq}
 use Rattle.std.proofs.lemmas.Slice.Eq.{bytes_eq-Decides}
 use Rattle.kv_base.specs.declared.request.Request.{Request}
 use Rattle.kv_base.specs.declared.request.Request.TheVariants.{Put, Get, Delete, Flush}
-use Rattle.kv_model.specs.Pairwise.{Pairwise}
-use Rattle.kv_model.specs.History.{Write, value_at}
-use Rattle.kv_model.specs.Layout.{Layout, class_of}
-use Rattle.kv_model.specs.Pairs.{written, acknowledged_by, stamp_of, stamps, writes}
-use Rattle.kv_model.specs.Agreement.{IsAnswer, IsMapAnswer, IsRead, refusal_of}
-use Rattle.kv_model.specs.Batch.{Start, last_write, value_or, value_after, is_full, full_class}
+use Rattle.kv_model.specs.History.{Write}
+use Rattle.kv_model.specs.Pairs.{written, acknowledged_by, stamp_of, writes}
+use Rattle.kv_model.specs.Batch.{Start, last_write, value_or, value_after, full_class}
 use Rattle.kv_model.specs.Batch.{accepted}
 use Rattle.kv_model.specs.Batch.{behind, accepted_writes, answers, reply_of, put_reply, get_reply}
 use Rattle.kv_model.specs.Batch.{delete_reply}
-use Rattle.kv_model.specs.Items.{SameValue}
 use Rattle.kv_model.specs.BatchLaws.{RiseBetween, AreStamped, pairs_of}
-use Rattle.kv_model.proofs.ReadingLemmas.{AllBelow, AllFrom, RiseBetween-append, RiseBetween-from}
-use Rattle.kv_model.proofs.ReadingLemmas.{option_or-assoc, value_at-rises, latest-append-above}
-use Rattle.kv_model.proofs.ReadingLemmas.{latest-same, AllBelow-append, AllBelow-weaken}
-use Rattle.kv_model.proofs.ReadingLemmas.{RiseBetween-below}
+use Rattle.kv_model.proofs.ReadingLemmas.{RiseBetween-append}
+use Rattle.kv_model.proofs.ReadingLemmas.{option_or-assoc}
 use Rattle.kv_model.proofs.NetLemmas.{RiseBetween-accepted, RiseBetween-higher, or_no}
 
 -- there are as many replies as requests

@@ -2,7 +2,6 @@
 use Rattle.std.proofs.Common.{◌≡◌, ℕ, ◌⊎◌, inl, inr, true, List, [], ◌∷◌, ◌-◌, Option, None, Some}
 use Rattle.std.proofs.Common.{refl, sym, ap, ◌∙◌}
 use Rattle.std.proofs.Common.{subst, arith, Contains}
-use Rattle.std.specs.List.{AllByRecursion}
 use Rattle.kv_model.specs.Pairwise.{Pairwise}
 use Rattle.kv_model.specs.History.{Write, value_at}
 use Rattle.kv_model.specs.Batch.{Start}

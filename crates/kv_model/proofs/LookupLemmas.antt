@@ -10,7 +10,6 @@ use Rattle.std.proofs.lemmas.Slice.Eq.{bytes_eq-Decides}
 use Rattle.std.specs.Ordering.{nat_cmp, is_le}
 use Rattle.std.specs.Cmp.Lexicographic.{slice_cmp}
 use Rattle.std.proofs.lemmas.List.Sums.{sum_by-cons}
-use Rattle.kv_model.specs.Pairwise.{Pairwise}
 use Rattle.kv_model.specs.History.{Write, latest, later_of, value_at}
 use Rattle.kv_model.specs.Items.{KeyValue, AreItems, IsLess, is_in_range}
 use Rattle.kv_model.specs.Lookup.{Lookup, IsWanted, IsLeastOf, IsNext, IsAtMost, IsPassed}

@@ -1,14 +1,13 @@
 -- Lemmas on what a batch accepts, and on the last write of each key.
-use Rattle.std.proofs.Common.{◌≡◌, ◌≢◌, ℕ, ◌+◌, ◌≤◌, ◌<◌, Bool, true, false, cond, List, [], ◌∷◌}
-use Rattle.std.proofs.Common.{◌++◌, Option, None, Some, refl, ap, sym, ◌∙◌, subst, arith, ◌&&◌}
+use Rattle.std.proofs.Common.{◌≡◌, ◌≢◌, ℕ, ◌+◌, ◌≤◌, Bool, true, false, cond, List, [], ◌∷◌}
+use Rattle.std.proofs.Common.{Option, None, Some, refl, ap, sym, ◌∙◌, arith}
 use Rattle.std.proofs.Common.{◌||◌}
-use Rattle.std.proofs.Common.{append_assoc, append-nil, option_and_then, option_to_list, filter}
+use Rattle.std.proofs.Common.{option_to_list, filter}
 use Rattle.std.proofs.Common.{length}
-use Rattle.std.proofs.Common.{is_some, Decides, true≢false}
+use Rattle.std.proofs.Common.{is_some, true≢false}
 use Rattle.std.specs.List.{AllByRecursion}
 use Rattle.std.specs.Option.{option_or}
 use Rattle.std.specs.Str.{bytes_eq}
-use Rattle.std.proofs.lemmas.Bool.{or_parts}
 use Rattle.std.proofs.lemmas.Slice.Eq.{bytes_eq-Decides}
 use Rattle.kv_base.specs.declared.request.Request.{Request}
 use Rattle.kv_base.specs.declared.request.Request.TheVariants.{Put, Get, Delete, Flush}
@@ -19,7 +18,7 @@ use Rattle.kv_model.specs.Batch.{Start, last_write, last_writes, value_or, full_
 use Rattle.kv_model.specs.Batch.{behind}
 use Rattle.kv_model.specs.Batch.{accepted_writes, changes_something, net}
 use Rattle.kv_model.specs.BatchLaws.{RiseBetween}
-use Rattle.kv_model.proofs.ReadingLemmas.{RiseBetween-lower, RiseBetween-le, RiseBetween-append}
+use Rattle.kv_model.proofs.ReadingLemmas.{RiseBetween-lower, RiseBetween-append}
 
 pub RiseBetween-higher : (low high more : ℕ) (writes : List Write) → high ≤ more
     → RiseBetween low high writes → RiseBetween low more writes

@@ -1,15 +1,12 @@
 -- Lemmas on what the oracle goes over.
-use Rattle.std.proofs.Common.{◌≡◌, ℕ, suc, ◌+◌, ◌<◌, List, [], ◌∷◌, ◌++◌, length, drop, take}
+use Rattle.std.proofs.Common.{◌≡◌, ℕ, suc, ◌+◌, ◌<◌, List, [], ◌∷◌, ◌++◌, length, drop}
 use Rattle.std.proofs.Common.{get_or}
-use Rattle.std.proofs.Common.{add-one, drop-cons, refl, sym, ap, ◌∙◌, arith, append_assoc, filter}
-use Rattle.std.proofs.Common.{map}
-use Rattle.std.proofs.lemmas.List.Elements.{filter-append}
+use Rattle.std.proofs.Common.{drop-cons, sym, ap, ◌∙◌, arith, append_assoc}
 use Rattle.kv_base.specs.declared.request.Request.{Request}
 use Rattle.kv_base.specs.declared.reply.Reply.{Reply}
 use Rattle.kv_model.specs.declared.write.Recorded.{Recorded}
 use Rattle.kv_model.specs.History.{Write}
 use Rattle.kv_model.specs.Batch.{Start, last_writes, reply_of, behind, answers, accepted_writes}
-use Rattle.kv_model.specs.Batch.{changes_something}
 use Rattle.kv_model.specs.Oracle.{history_of, write_of}
 
 -- the elements from one on are it and those behind it

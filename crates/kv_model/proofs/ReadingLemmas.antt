@@ -1,13 +1,12 @@
 -- Lemmas on reading a history that goes on with writes whose stamps rise.
 use Rattle.std.proofs.Common.{◌≡◌, ℕ, ◌+◌, ◌≤◌, ◌<◌, Bool, true, false, cond, List, [], ◌∷◌, ◌++◌}
-use Rattle.std.proofs.Common.{Option, None, Some, refl, ap, sym, ◌∙◌, subst, arith, ◌&&◌, nat_le}
-use Rattle.std.proofs.Common.{leb}
-use Rattle.std.proofs.Common.{append_assoc, append-nil, option_and_then, option_to_list, le-leb}
+use Rattle.std.proofs.Common.{Option, None, Some, refl, ap, sym, ◌∙◌, arith, ◌&&◌, nat_le}
+use Rattle.std.proofs.Common.{append_assoc, append-nil, option_and_then, le-leb}
 use Rattle.std.specs.List.{AllByRecursion}
 use Rattle.std.specs.Option.{option_or}
 use Rattle.std.specs.Str.{bytes_eq}
 use Rattle.std.proofs.lemmas.Bool.{lt-leb}
-use Rattle.kv_model.specs.History.{Write, later, later_of, latest, value_at}
+use Rattle.kv_model.specs.History.{Write, later_of, latest, value_at}
 use Rattle.kv_model.specs.Batch.{last_write, value_or}
 use Rattle.kv_model.specs.BatchLaws.{RiseBetween}
 use Rattle.kv_model.specs.Oracle.{preferred}

@@ -1,15 +1,13 @@
 -- What stands on the disk with one item.
-use Rattle.std.proofs.Common.{◌≡◌, ℕ, ◌*◌, ◌/◌, ◌%◌, ◌≤◌, ◌<◌, ◌⊎◌, inl, inr, Bool, true, false}
+use Rattle.std.proofs.Common.{◌≡◌, ℕ, ◌*◌, ◌%◌, ◌≤◌, inr, Bool, true, false}
 use Rattle.std.proofs.Common.{cond}
 use Rattle.std.proofs.Common.{List, [], ◌∷◌, Option, None, Some, refl, sym, ap, ◌∙◌, subst, arith}
-use Rattle.std.proofs.Common.{eqb}
 use Rattle.std.proofs.Common.{take, drop, true≢false, ◌&&◌, ◌||◌, ◌==◌, IsTrue, map, nat_le, le-leb}
 use Rattle.std.proofs.Common.{option_and_then}
 use Rattle.std.proofs.Math.Nat.{div-one, mod-one}
 use Rattle.std.proofs.lemmas.Bool.{eqb-true, ne_eqb}
 use Rattle.std.specs.List.{AllByRecursion}
 use Rattle.std.specs.Str.{bytes_eq}
-use Rattle.std.proofs.lemmas.Slice.Eq.{bytes_eq-Decides}
 use Rattle.kv_base.specs.Image.{zero_page}
 use Rattle.kv_base.specs.Partition.{hash_of, owner_of}
 use Rattle.kv_model.specs.History.{value_at, later_of}
@@ -19,7 +17,7 @@ use Rattle.kv_model.specs.SlotBytes.{item_bytes}
 use Rattle.kv_model.specs.Head.{head_page}
 use Rattle.kv_model.specs.Reading.{Copy, IsFound, IsKept, slot_at, heads_at, has_class, small_slot}
 use Rattle.kv_model.specs.Reading.{large_slot}
-use Rattle.kv_model.specs.Recovery.{OpensAs, GivesValue, HoldsAll, most_pages}
+use Rattle.kv_model.specs.Recovery.{OpensAs, most_pages}
 use Rattle.kv_model.specs.Examples.{key_a, value_1}
 use Rattle.kv_model.specs.BatchExamples.{value_2, wrote}
 use Rattle.kv_model.specs.RecoveryExamples.{disk_with_a, layout_7, reading_with_a, two_puts}

@@ -1,8 +1,8 @@
 -- A run with the answers to one more batch behind it agrees with one plain map.
-use Rattle.std.proofs.Common.{◌≡◌, ◌≢◌, ℕ, suc, ◌+◌, ◌-◌, ◌^◌, ◌≤◌, ◌<◌, Bool, true, false, List}
+use Rattle.std.proofs.Common.{◌≡◌, ◌≢◌, ℕ, ◌+◌, ◌-◌, ◌^◌, ◌≤◌, ◌<◌, Bool, List}
 use Rattle.std.proofs.Common.{[]}
 use Rattle.std.proofs.Common.{◌∷◌, ◌++◌, Option, None, Some, refl, ap, sym, ◌∙◌, subst, arith}
-use Rattle.std.proofs.Common.{append_assoc, append-nil, option_and_then, option_to_list, length}
+use Rattle.std.proofs.Common.{append_assoc, option_to_list, length}
 use Rattle.std.proofs.Common.{MatchOption, is_some, IsTrue}
 use Rattle.std.specs.List.{AllByRecursion, cons_option}
 use Rattle.std.proofs.lemmas.List.Elements.{filter_map-append}
@@ -11,16 +11,16 @@ use Rattle.kv_base.specs.declared.request.Request.TheVariants.{Put, Get, Delete,
 use Rattle.kv_base.specs.declared.reply.Reply.{Reply}
 use Rattle.kv_base.specs.declared.reply.Reply.TheVariants.{Stored, Found, Missing, Removed, Absent}
 use Rattle.kv_model.specs.Pairwise.{Pairwise}
-use Rattle.kv_model.specs.History.{Write, value_at}
+use Rattle.kv_model.specs.History.{Write}
 use Rattle.kv_model.specs.Layout.{Layout}
 use Rattle.kv_model.specs.Pairs.{Pair, acknowledged, acknowledged_by, stamp_of, stamps, writes}
 use Rattle.kv_model.specs.Agreement.{AgreesWithMap, IsAnswer, IsMapAnswer, IsRead, refusal_of}
-use Rattle.kv_model.specs.Batch.{IsTask, Start, behind, answers, reply_of, value_after}
-use Rattle.kv_model.specs.Items.{SameValue, BeginsAt}
-use Rattle.kv_model.specs.BatchLaws.{RiseBetween, pairs_of}
+use Rattle.kv_model.specs.Batch.{IsTask, Start, behind, answers, reply_of}
+use Rattle.kv_model.specs.Items.{BeginsAt}
+use Rattle.kv_model.specs.BatchLaws.{pairs_of}
 use Rattle.kv_model.proofs.ReadingLemmas.{AllBelow, AllFrom, RiseBetween-from, AllBelow-append}
 use Rattle.kv_model.proofs.ReadingLemmas.{AllBelow-weaken}
-use Rattle.kv_model.proofs.AnswersLemmas.{HasStamp, HasStamp-reply, acknowledged_in, cons-is}
+use Rattle.kv_model.proofs.AnswersLemmas.{HasStamp, HasStamp-reply, cons-is}
 use Rattle.kv_model.proofs.AnswersLemmas.{RiseBetween-acknowledged_in}
 use Rattle.kv_model.proofs.AgreementLemmas.{value-append-above, AllFrom-weaken, answers-agree}
 

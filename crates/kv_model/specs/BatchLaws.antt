@@ -1,6 +1,6 @@
 -- What the answers to a batch and its net changes have, whatever the batch is.
 use Rattle.std.specs.Prelude.{◌≡◌, ◌≢◌, ℕ, ◌+◌, ◌≤◌, ◌<◌, ◌^◌, List, [], ◌∷◌, ◌++◌, length, Bool}
-use Rattle.std.specs.Prelude.{None, MatchOption, ⊤, Option, ◌⊎◌, map}
+use Rattle.std.specs.Prelude.{MatchOption, ⊤, Option, ◌⊎◌, map}
 use Rattle.std.specs.List.{AllByRecursion}
 use Rattle.kv_base.specs.declared.request.Request.{Request}
 use Rattle.kv_base.specs.declared.reply.Reply.{Reply}

@@ -1,7 +1,7 @@
 -- Which slots of a class are free, which ones a batch takes, and which are free behind it.
-use Rattle.std.specs.Prelude.{◌≡◌, ◌↔◌, ℕ, ◌+◌, ◌-◌, ◌<◌, ◌&&◌, List, [], ◌∷◌, ◌++◌, Bool, not}
+use Rattle.std.specs.Prelude.{◌↔◌, ℕ, ◌+◌, ◌-◌, ◌<◌, ◌&&◌, List, ◌++◌, Bool, not}
 use Rattle.std.specs.Prelude.{length}
-use Rattle.std.specs.Prelude.{take, map, reverse, filter, count_by, nat_lt, Contains, Option, Some}
+use Rattle.std.specs.Prelude.{take, map, reverse, filter, count_by, nat_lt, Contains, Option}
 use Rattle.std.specs.Prelude.{None}
 use Rattle.std.specs.Prelude.{if◌then◌else◌}
 use Rattle.std.specs.List.{range_with_len, slice_get}

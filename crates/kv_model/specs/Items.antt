@@ -1,5 +1,5 @@
 -- The items that a history has at a stamp, and what a batch finds there.
-use Rattle.std.specs.Prelude.{◌≡◌, ℕ, ◌-◌, ◌==◌, List, [], ◌∷◌, length, filter, count_by, Contains}
+use Rattle.std.specs.Prelude.{◌≡◌, ℕ, ◌-◌, ◌==◌, List, [], length, filter, count_by, Contains}
 use Rattle.std.specs.Prelude.{Option, None, Some, Bool, true, IsTrue, ◌↔◌, ◌&&◌, ◌||◌, ◌++◌, ⊤}
 use Rattle.std.specs.Prelude.{option_and_then}
 use Rattle.std.specs.Ordering.{nat_cmp, is_le, is_lt}

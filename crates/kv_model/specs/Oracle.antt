@@ -1,5 +1,5 @@
 -- The oracle as its callers see it: a history.
-use Rattle.std.specs.Prelude.{◌≡◌, ℕ, List, map, Option, None, Some}
+use Rattle.std.specs.Prelude.{ℕ, List, map, Option, None, Some}
 use Rattle.std.specs.Borrow.{Bor}
 use Rattle.kv_model.specs.declared.write.Recorded.{Recorded}
 use Rattle.kv_model.specs.declared.item.Item.{Item}

@@ -1,5 +1,5 @@
 -- Worked examples of recovery: a disk with the class 7 alone, where slot 0 has an item of a.
-use Rattle.std.specs.Prelude.{ℕ, ◌==◌, ◌&&◌, List, [], ◌∷◌, None, Some, if◌then◌else◌}
+use Rattle.std.specs.Prelude.{◌==◌, ◌&&◌, List, [], ◌∷◌, None, Some, if◌then◌else◌}
 use Rattle.kv_base.specs.Image.{Image, zero_page}
 use Rattle.kv_model.specs.History.{Write}
 use Rattle.kv_model.specs.Layout.{Layout, only_class}

@@ -1,10 +1,8 @@
 -- one more write
-use Rattle.std.proofs.Common.{arith, rules, ◌≡◌, Bool, true, false, ap, sym, ◌∙◌, cond, Some, refl}
+use Rattle.std.proofs.Common.{arith, rules, ◌≡◌, true, false, refl}
 use Rattle.std.specs.Str.{bytes_eq}
 use Rattle.std.proofs.lemmas.List.{map_more}
-use Rattle.std.specs.Option.{option_copied, option_map}
-use Rattle.kv_model.specs.Batch.{last_write}
-use Rattle.kv_model.specs.Oracle.{history_of, write_of}
+use Rattle.kv_model.specs.Oracle.{write_of}
 use Rattle.kv_model.proofs.AnswersLemmas.{last_write-push}
 use Rattle.kv_model.proofs.found.last_write.Goals as goal
 use Rattle.kv_model.proofs.found.last_write.Goals.{then-eq, else-eq}

@@ -1,10 +1,10 @@
 -- one more write
-use Rattle.std.proofs.Common.{◌≡◌, ◌+◌, ◌++◌, [], ◌∷◌, Bor, ap, ◌∙◌, sym, take, arith, filter}
+use Rattle.std.proofs.Common.{◌≡◌, ◌+◌, ◌++◌, [], ◌∷◌, Bor, ap, ◌∙◌, sym, take, filter}
 use Rattle.std.proofs.lemmas.List.{map_more}
 use Rattle.std.proofs.lemmas.List.Elements.{filter-append}
 use Rattle.kv_model.specs.declared.write.Recorded.{Recorded}
 use Rattle.kv_model.specs.Batch.{changes_something}
-use Rattle.kv_model.specs.Oracle.{history_of, seen_of, write_of, start_of}
+use Rattle.kv_model.specs.Oracle.{seen_of, write_of, start_of}
 use Rattle.kv_model.proofs.lasts.net.Goals as goal
 
 pub loop-write-preserved : goal.loop-write-preserved

@@ -1,7 +1,7 @@
 -- before the batch, or behind it
-use Rattle.std.proofs.Common.{◌≡◌, ℕ, List, [], ◌∷◌, ◌+◌, ◌-◌, ◌≤◌, ◌<◌, length, le_refl, arith}
+use Rattle.std.proofs.Common.{ℕ, List, [], ◌∷◌, ◌+◌, ◌-◌, ◌≤◌, length, le_refl, arith}
 use Rattle.std.proofs.Common.{sym, ◌∙◌, ap}
-use Rattle.std.proofs.Common.{subst, inl, inr, ◌++◌, ⊎_elim}
+use Rattle.std.proofs.Common.{subst, ◌++◌, ⊎_elim}
 use Rattle.std.specs.List.{AllByRecursion}
 use Rattle.kv_model.specs.History.{Write, value_at}
 use Rattle.kv_model.specs.Batch.{accepted_writes, last_write, last_writes, value_or, net}

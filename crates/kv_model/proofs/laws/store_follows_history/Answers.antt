@@ -1,5 +1,5 @@
 -- both are the last write's value, or what was there
-use Rattle.std.proofs.Common.{◌≡◌, [], ◌+◌, ◌-◌, length, le_refl, arith, sym, ◌∙◌, ap, is_some}
+use Rattle.std.proofs.Common.{◌≡◌, [], ◌+◌, ◌-◌, length, arith, sym, ◌∙◌, ap, is_some}
 use Rattle.std.proofs.Common.{refl}
 use Rattle.std.proofs.Common.{subst, ◌++◌, ◌∷◌, List, ℕ, Option, Some, None, Bool, true, false}
 use Rattle.std.proofs.Common.{cond}
@@ -12,7 +12,7 @@ use Rattle.kv_model.specs.Batch.{accepted_writes, last_write, value_or, net}
 use Rattle.kv_model.specs.Items.{SameValue, class_with, class_or}
 use Rattle.kv_model.proofs.ReadingLemmas.{value_at-rises}
 use Rattle.kv_model.proofs.AgreementLemmas.{same-some, value-same, SameValue-or}
-use Rattle.kv_model.proofs.NetLemmas.{RiseBetween-accepted_writes, net-reads}
+use Rattle.kv_model.proofs.NetLemmas.{net-reads}
 use Rattle.kv_model.proofs.AnswersLemmas.{acknowledged-reads, acknowledged_in}
 use Rattle.kv_model.proofs.AnswersLemmas.{RiseBetween-acknowledged_in}
 use Rattle.kv_model.proofs.laws.store_follows_history.Goals as goal

@@ -1,10 +1,10 @@
 -- the tests say that the key is looked for, and less
-use Rattle.std.proofs.Common.{rules, ◌≡◌, Bool, true, false, Some, sym, ap, ◌∙◌, not}
+use Rattle.std.proofs.Common.{rules, ◌≡◌, true, false, Some, sym, ap, ◌∙◌}
 use Rattle.std.specs.Option.{option_copied, option_map, option_and_then}
 use Rattle.kv_model.specs.History.{value_at}
 use Rattle.kv_model.specs.Items.{is_in_range}
 use Rattle.kv_model.specs.Oracle.{history_of, write_of, item_seen}
-use Rattle.kv_model.specs.Lookup.{Lookup, IsNext, is_behind, is_up_to}
+use Rattle.kv_model.specs.Lookup.{is_behind, is_up_to}
 use Rattle.kv_model.proofs.LookupLemmas.{nearer-found}
 use Rattle.kv_model.proofs.lookup.nearer.Goals as goal
 

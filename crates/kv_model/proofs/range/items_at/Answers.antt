@@ -1,8 +1,8 @@
 -- each next item comes behind the others
-use Rattle.std.proofs.Common.{◌≡◌, [], Some, None, refl, sym, ap, subst, rules}
-use Rattle.std.specs.Option.{option_copied, option_map}
+use Rattle.std.proofs.Common.{None, refl, sym, ap, subst}
+use Rattle.std.specs.Option.{option_copied}
 use Rattle.kv_model.specs.Oracle.{history_of, items_of, item_seen, lookup_of}
-use Rattle.kv_model.specs.Lookup.{AreItemsSoFar, IsNext, IsLeastOf}
+use Rattle.kv_model.specs.Lookup.{AreItemsSoFar}
 use Rattle.kv_model.proofs.LookupLemmas.{items-are-all, items-grow, no-items, behind-less}
 use Rattle.kv_model.proofs.LookupLemmas.{behind_key}
 use Rattle.kv_model.proofs.range.items_at.Goals as goal

@@ -1,14 +1,14 @@
 -- by the one item that stands on the disk
-use Rattle.std.proofs.Common.{◌≡◌, ℕ, List, Bool, true, false, Option, None, Some, refl, sym, ap}
+use Rattle.std.proofs.Common.{◌≡◌, ℕ, List, Bool, true, false, refl, sym, ap}
 use Rattle.std.proofs.Common.{◌∙◌}
 use Rattle.std.proofs.Common.{subst, arith, inr, true≢false, Contains}
 use Rattle.std.specs.Str.{bytes_eq}
 use Rattle.std.proofs.lemmas.Slice.Eq.{bytes_eq-Decides}
 use Rattle.kv_model.specs.History.{value_at}
-use Rattle.kv_model.specs.Recovery.{GivesValue, HoldsAll}
+use Rattle.kv_model.specs.Recovery.{GivesValue}
 use Rattle.kv_model.specs.Examples.{key_a, value_1}
 use Rattle.kv_model.specs.BatchExamples.{key_b, value_2}
-use Rattle.kv_model.specs.RecoveryExamples.{reading_with_a, two_puts, first_put}
+use Rattle.kv_model.specs.RecoveryExamples.{reading_with_a, two_puts}
 use Rattle.kv_model.proofs.RecoveryLemmas.{the_copy, is_kept, others_missing, heads-low}
 use Rattle.kv_model.proofs.RecoveryLemmas.{heads-first}
 use Rattle.kv_model.proofs.RecoveryLemmas.{opens, second_value, no_value, one_item, owned}

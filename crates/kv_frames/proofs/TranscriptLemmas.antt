@@ -1,11 +1,10 @@
 -- Lemmas on what a session took and gave.
 use Rattle.std.proofs.Common.{◌≡◌, ℕ, ◌+◌, ◌≤◌, Bool, true, false, List, [], ◌∷◌, ◌++◌, length}
-use Rattle.std.proofs.Common.{map, filter, fold, take, ◌⊎◌, inl, inr, refl, sym, ap, subst, ◌∙◌, arith}
+use Rattle.std.proofs.Common.{map, filter, take, ◌⊎◌, inl, inr, refl, sym, ap, subst, ◌∙◌, arith}
 use Rattle.std.specs.List.{AllByRecursion, flat_map}
 use Rattle.std.proofs.lemmas.Bool.{cases_lt}
 use Rattle.std.proofs.lemmas.List.{length-append, length-map, take_at, nil_from_length}
 use Rattle.std.proofs.lemmas.List.Elements.{filter-append}
-use Rattle.std.proofs.lemmas.Grind.{fold-append}
 use Rattle.kv_base.specs.declared.request.Request.{Request}
 use Rattle.kv_base.specs.declared.request.Request.TheVariants.{Put, Get, Delete, Flush}
 use Rattle.kv_base.specs.declared.reply.Reply.{Reply}
@@ -148,8 +147,8 @@ replies_counted law groups handled grouped =
     ∙ ap (λ (rs : List Request). length rs) (law.parts handled)
 
 -- two transcripts with the same ends are one
-pub transcripts_same : GroupsHoldRequests → OneGrouping → (taken : List ℕ) (ended : Bool) (given : List ℕ)
-    (left : List Reply) (cause : Cause) (groups others : List (List Pair))
+pub transcripts_same : GroupsHoldRequests → OneGrouping → (taken : List ℕ) (ended : Bool)
+    (given : List ℕ) (left : List Reply) (cause : Cause) (groups others : List (List Pair))
     → HasTranscript taken ended given left cause groups
     → HasTranscript taken ended given left cause others → groups ≡ others
 transcripts_same law one taken ended given left cause groups others p q =

@@ -1,6 +1,7 @@
 -- Lemmas on what a session did.
 use Rattle.std.proofs.Common.{◌≡◌, ◌≢◌, ℕ, ◌+◌, ◌^◌, ◌<◌, ◌≤◌, Bool, true, List, [], ◌∷◌, ◌++◌}
-use Rattle.std.proofs.Common.{length, drop, Result, Ok, Err, OnOk, IfErr, MatchResult, IsTrue, inl, inr}
+use Rattle.std.proofs.Common.{length, drop, Result, Ok, Err, OnOk, IfErr, MatchResult, inl, inr}
+use Rattle.std.proofs.Common.{IsTrue}
 use Rattle.std.proofs.Common.{refl, sym, ap, subst, ◌∙◌, arith, append_assoc, length-append}
 use Rattle.std.specs.List.{AllByRecursion, flat_map}
 use Rattle.std.proofs.lemmas.List.{append-nil}
@@ -234,16 +235,16 @@ pub Answers-result : {T W So Si : Type 0} (streams : Streams So Si)
     × TakesPart (streams.held mid.sink) (streams.held new.sink) (reply_frame one))
     → MatchResult result (λ _. Answers streams steps before now old new [])
     (λ back. Answers streams steps before now old new (back ∷ []))
-Answers-result streams steps before now old mid new request n one (Ok x) whole served step framed
-    waiting source sink taken ended kept ok err =
-    Answers-made streams steps before now old mid new request n one (reply_frame one) [] whole served
-    step framed waiting source sink taken ended kept ok (GoesOut-one one)
-Answers-result streams steps before now old mid new request n one (Err back) whole served step framed
-    waiting source sink taken ended kept ok err =
+Answers-result streams steps before now old mid new request n one (Ok x) whole served step
+    framed waiting source sink taken ended kept ok err =
+    Answers-made streams steps before now old mid new request n one (reply_frame one) [] whole
+    served step framed waiting source sink taken ended kept ok (GoesOut-one one)
+Answers-result streams steps before now old mid new request n one (Err back) whole served step
+    framed waiting source sink taken ended kept ok err =
     let part = err.1 in
     subst (λ (r : Reply). Answers streams steps before now old new (r ∷ [])) (sym err.0)
-    (Answers-made streams steps before now old mid new request n one part.part (one ∷ []) whole served
-    step framed waiting source sink taken ended kept part.took
+    (Answers-made streams steps before now old mid new request n one part.part (one ∷ []) whole
+    served step framed waiting source sink taken ended kept part.took
     (GoesOut-part one part.part part.behind part.some part.parts))
 
 -- a count that rose since a moment rose since each earlier one

@@ -26,10 +26,11 @@ use Rattle.kv_model.specs.Agreement.{IsAnswer, IsMapAnswer, IsRead, refusal_of}
 use Rattle.kv_serve.specs.Pages.{place_of}
 use Rattle.kv_serve.specs.Placed.{IsPlaced, GivesPage, HasPlaces}
 use Rattle.kv_serve.specs.Content.{ReadsAs, ReadsItem, IsFoundIn}
-use Rattle.kv_serve.specs.Causes.{RoseBy, is_unsure, faults_told, IsFullAtLimit, drawn, faults_behind}
-use Rattle.kv_serve.specs.Causes.{slot_limit, last_value, HasNoSlot, IsPlain}
+use Rattle.kv_serve.specs.Causes.{RoseBy, is_unsure, faults_told, IsFullAtLimit, drawn}
+use Rattle.kv_serve.specs.Causes.{faults_behind, slot_limit, last_value, HasNoSlot, IsPlain}
 use Rattle.kv_serve.specs.Transcript.{is_served}
-use Rattle.kv_serve.specs.Store.{Keeps, Holds, Steps, TakesCalls, IsDurable, OthersStay, IsItemOf, HasItems}
+use Rattle.kv_serve.specs.Store.{Keeps, Holds, Steps, TakesCalls, IsDurable, OthersStay, IsItemOf}
+use Rattle.kv_serve.specs.Store.{HasItems}
 use Rattle.kv_base.specs.Crash.{Same}
 use Rattle.kv_serve.specs.declared.store.Store.{Store}
 use Rattle.kv_base.proofs.ImageLemmas.{with_page-here, with_page-other}

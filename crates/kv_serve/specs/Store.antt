@@ -1,6 +1,6 @@
 -- The plain store: one page for each key, in class 7.
 use Rattle.std.specs.Prelude.{◌≡◌, ℕ, ◌+◌, ◌<◌, ◌≤◌, ◌↔◌, ◌⊎◌, ◌||◌, List, ◌++◌, Option, None, Some}
-use Rattle.std.specs.Prelude.{Bool, true, false, IsTrue, IfSome, ⊤}
+use Rattle.std.specs.Prelude.{Bool, true, false, IsTrue, IfSome}
 use Rattle.std.specs.List.{AllByRecursion}
 use Rattle.std.specs.Option.{option_to_list}
 use Rattle.kv_base.specs.Image.{Image}

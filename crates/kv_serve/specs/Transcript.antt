@@ -34,7 +34,8 @@ pub record IsUnserved (bytes : List ℕ) : Type 0 where
       → 4 + stated_length bytes ≤ length bytes
   pub none : BeginsWithNoServed bytes
 
--- what is left is bad: no request that is served begins it, whatever follows, or the input ended behind at least one byte of it
+-- what is left is bad: no request that is served begins it, whatever follows, or the input ended
+-- behind at least one byte of it
 abbrev pub IsBad : List ℕ → Bool → Type 0
 IsBad rest false = IsUnserved rest
 IsBad rest true = 1 ≤ length rest

@@ -18,8 +18,8 @@ pub enum Ready {
     Request,
     /// Nothing: the input ended behind a whole frame.
     End,
-    /// No request that is served, whatever bytes follow, or a part of a frame behind which the input
-    /// ended.
+    /// No request that is served, whatever bytes follow, or a part of a frame behind which the
+    /// input ended.
     Malformed,
     /// A part of a frame or nothing, and 2^40 bytes were taken.
     Limit,

@@ -1,12 +1,11 @@
 -- How many pairs and nodes there are below a node, and what a split and a join keep.
-use Rattle.std.proofs.Common.{◌≡◌, ℕ, zero, suc, ◌+◌, ◌-◌, ◌*◌, ◌<◌, ◌≤◌, List, [], ◌∷◌, ◌++◌}
-use Rattle.std.proofs.Common.{length, get_or, set, take, drop, length-append}
-use Rattle.std.proofs.Common.{Option, Some, None, refl, sym, ap, ◌∙◌, subst, arith}
+use Rattle.std.proofs.Common.{◌≡◌, ℕ, zero, suc, ◌+◌, ◌*◌, ◌<◌, ◌≤◌, List, [], ◌∷◌, ◌++◌}
+use Rattle.std.proofs.Common.{length, get_or, length-append}
+use Rattle.std.proofs.Common.{refl, sym, ap, ◌∙◌, subst, arith}
 use Rattle.std.proofs.lemmas.List.{append_assoc}
-use Rattle.std.specs.List.{insert, remove}
-use Rattle.kv_tree.specs.Subtree.{Pair, Subtree, weave, behind, subtree, blank, AreBlank}
+use Rattle.kv_tree.specs.Subtree.{Pair, Subtree, weave, subtree, blank, AreBlank}
 use Rattle.kv_tree.specs.Subtree.{depth_over, level_of, sum_in, nodes_in, inner_in, inner_over}
-use Rattle.kv_tree.specs.Subtree.{IsKid, AreKids, IsShape, IsNode}
+use Rattle.kv_tree.specs.Subtree.{IsKid, AreKids, IsShape}
 use Rattle.kv_tree.specs.Subtree.{AreKidRooms}
 use Rattle.std.specs.Global.{Vec}
 use Rattle.std.specs.Prelude.{vec_capacity}

@@ -1,14 +1,13 @@
 -- The finite map of rising pairs, under what a tree does to them.
-use Rattle.std.proofs.Common.{◌≡◌, ℕ, ◌<◌, ◌≤◌, T, Bool, true, false, cond, not, List, [], ◌∷◌}
-use Rattle.std.proofs.Common.{◌++◌, length, ◌+◌, ◌-◌}
+use Rattle.std.proofs.Common.{◌≡◌, ℕ, ◌<◌, Bool, true, false, cond, not, List, [], ◌∷◌}
+use Rattle.std.proofs.Common.{◌++◌, length, ◌+◌}
 use Rattle.std.proofs.Common.{Option, Some, None, IfNone, MatchOption, IsTrue, IsSome, is_some}
 use Rattle.std.proofs.Common.{Ordering, Less, Equal, Greater, refl, sym, ap, ◌∙◌, subst, arith}
-use Rattle.std.specs.Ordering.{nat_cmp, is_le, is_gt, is_eq, eq_by_cmp, ordering_reverse}
-use Rattle.std.specs.Cmp.{IsTotalOrder, tied_itself, alike_right, eq_by_cmp_equiv}
-use Rattle.std.specs.Cmp.Lexicographic.{slice_cmp}
+use Rattle.std.specs.Ordering.{is_le, is_gt, is_eq, eq_by_cmp, ordering_reverse}
+use Rattle.std.specs.Cmp.{tied_itself, alike_right, eq_by_cmp_equiv}
 use Rattle.std.specs.FinMap as finite
-use Rattle.std.specs.FinMap.{find, is_sorted, from_sorted, entries-from_sorted, get-from_sorted}
-use Rattle.std.specs.FinMap.{entries-insert, same_entries_map, len-entries, len-insert}
+use Rattle.std.specs.FinMap.{find, from_sorted, entries-from_sorted, get-from_sorted}
+use Rattle.std.specs.FinMap.{entries-insert, same_entries_map, len-insert}
 use Rattle.std.specs.FinMap.{empty_of_len, same_map, get-remove}
 use Rattle.std.specs.FinMap.{get-empty, len-empty}
 use Rattle.std.specs.FinMap.Entries.{put, is_sorted-put, is_sorted-where_key, find-where_key}
@@ -21,9 +20,9 @@ use Rattle.kv_index.specs.Places.{HasRisingKeys}
 use Rattle.kv_index.proofs.EntriesLemmas.{one_key, len_is}
 use Rattle.kv_tree.specs.Subtree.{Pair, next_from, entry_of, without, indexed_of}
 use Rattle.kv_tree.proofs.WeaveLemmas.{append_none}
-use Rattle.kv_tree.proofs.WeaveLemmas.{order, IsBelow, Rises, yes, is_yes, find_past}
+use Rattle.kv_tree.proofs.WeaveLemmas.{order, Rises, yes, is_yes, find_past}
 use Rattle.kv_tree.specs.Subtree.{Past}
-use Rattle.kv_tree.proofs.WeaveLemmas.{find_none, rises_right, below_from, past_upto}
+use Rattle.kv_tree.proofs.WeaveLemmas.{find_none, rises_right, below_from}
 
 abbrev map_of : List Pair → Entries
 map_of = from_sorted
@@ -186,7 +185,8 @@ some_next q es x rising is =
                 ∙ ap ordering_reverse after in
                 let none = get_is es other rising ∙ ap (find order other) f.is
                 ∙ find_past other a (x ∷ b) (past_upto_key q other a up f.past)
-                ∙ find_none other (x ∷ b) (below_from other x b (rises_right a (x ∷ b) rises) before) in
+                ∙ find_none other (x ∷ b) (below_from other x b (rises_right a (x ∷ b) rises)
+                before) in
                 absurd (false≢true (subst (λ (o : Option Entry). IsSome o) none some))
           ] refl;
     }
@@ -251,7 +251,8 @@ module _ (tree : Option Indexed) (s : Indexed) (view : indexed_of tree ≡ s) (n
     nothing_found q = ap (λ (i : Indexed). finite.get i.entries q) (sym nothing) ∙ get-empty order q
 
     pub nothing_counted : finite.len s.entries ≡ 0
-    nothing_counted = ap (λ (i : Indexed). finite.len i.entries) (sym nothing) ∙ len-empty order Entry
+    nothing_counted = ap (λ (i : Indexed). finite.len i.entries) (sym nothing)
+        ∙ len-empty order Entry
 
     pub nothing_removed : (q : List ℕ) → finite.remove s.entries q ≡ s.entries
     nothing_removed q =

@@ -1,12 +1,12 @@
 -- A node before and after two of its kids are evened out.
-use Rattle.std.proofs.Common.{◌≡◌, ℕ, zero, suc, ◌+◌, ◌-◌, ◌*◌, ◌<◌, ◌≤◌, List, [], ◌∷◌, ◌++◌}
-use Rattle.std.proofs.Common.{length, get_or, set, take, drop, length-append}
-use Rattle.std.proofs.Common.{Option, Some, None, refl, sym, ap, ◌∙◌, subst, add-one, arith}
+use Rattle.std.proofs.Common.{◌≡◌, ℕ, zero, suc, ◌+◌, ◌<◌, ◌≤◌, List, [], ◌∷◌, ◌++◌}
+use Rattle.std.proofs.Common.{length, get_or, set, take, drop}
+use Rattle.std.proofs.Common.{refl, sym, ap, ◌∙◌, subst, add-one, arith}
 use Rattle.std.proofs.lemmas.List.{append_assoc}
 use Rattle.std.specs.List.{insert, remove}
-use Rattle.kv_tree.specs.Subtree.{Pair, Subtree, weave, behind, subtree, depth_over, level_of}
-use Rattle.kv_tree.specs.Subtree.{sum_in, nodes_in, inner_over, IsKid, IsThin, IsThinAt, AreKids}
-use Rattle.kv_tree.specs.Subtree.{AreKidsBut, IsShape, IsNode}
+use Rattle.kv_tree.specs.Subtree.{Pair, Subtree, weave, behind, depth_over, level_of}
+use Rattle.kv_tree.specs.Subtree.{sum_in, nodes_in, inner_over, IsKid, IsThinAt, AreKids}
+use Rattle.kv_tree.specs.Subtree.{AreKidsBut, IsShape}
 use Rattle.kv_tree.proofs.WeaveLemmas.{append_none}
 use Rattle.kv_tree.proofs.FillLemmas.{shape_inner, own_level, depth_is, inner_is}
 use Rattle.kv_tree.proofs.SetLemmas.{length_set, length_insert}

@@ -1,17 +1,14 @@
 -- A node before and after a key is taken out of it.
-use Rattle.std.proofs.Common.{◌≡◌, ℕ, zero, suc, ◌+◌, ◌-◌, ◌*◌, ◌<◌, ◌≤◌, T, Bool, true, false}
-use Rattle.std.proofs.Common.{cond, not, ◌&&◌, List, [], ◌∷◌, ◌++◌, length, get_or, set, take, drop}
-use Rattle.std.proofs.Common.{length-append}
-use Rattle.std.proofs.Common.{Option, Some, None, Ordering, Less, Equal, Greater, refl, sym, ap}
+use Rattle.std.proofs.Common.{◌≡◌, ℕ, zero, suc, ◌+◌, ◌<◌, ◌≤◌}
+use Rattle.std.proofs.Common.{List, [], ◌∷◌, ◌++◌, length, get_or, set, take, drop}
+use Rattle.std.proofs.Common.{Less, Equal, Greater, refl, sym, ap}
 use Rattle.std.proofs.Common.{◌∙◌, subst, arith}
 use Rattle.std.proofs.lemmas.List.{append_assoc}
-use Rattle.std.specs.List.{insert, remove}
-use Rattle.std.specs.Ordering.{nat_cmp, is_lt, is_eq, is_le, eq_by_cmp}
-use Rattle.std.specs.Cmp.Lexicographic.{slice_cmp}
-use Rattle.std.specs.FinMap.{find, is_sorted}
-use Rattle.std.specs.FinMap.Entries.{where_key, below_all}
+use Rattle.std.specs.List.{remove}
+use Rattle.std.specs.Ordering.{is_lt}
+use Rattle.std.specs.FinMap.{is_sorted}
+use Rattle.std.specs.FinMap.Entries.{below_all}
 use Rattle.std.proofs.lemmas.Cmp.{nat_list_cmp_total}
-use Rattle.kv_index.specs.declared.entry.Entry.{Entry}
 use Rattle.kv_index.specs.Places.{HasRisingKeys, IsAt, IsGap}
 use Rattle.kv_index.proofs.EntriesLemmas.{one_key}
 use Rattle.kv_index.proofs.PlacesLemmas.{at-lt, gap-le, without_at, without_gap, first, second}
@@ -22,11 +19,11 @@ use Rattle.kv_tree.specs.Subtree.{IsShape, IsNode, without}
 use Rattle.kv_tree.proofs.WeaveLemmas.{kid_level, order, IsBelow, Rises, IsFocus, AtKid}
 use Rattle.kv_tree.specs.Subtree.{Past}
 use Rattle.kv_tree.proofs.WeaveLemmas.{AtItem, yes}
-use Rattle.kv_tree.proofs.WeaveLemmas.{is_yes, past_item, rises_right, leaf_weave}
+use Rattle.kv_tree.proofs.WeaveLemmas.{past_item, rises_right, leaf_weave}
 use Rattle.kv_tree.proofs.WeaveLemmas.{shape_length}
-use Rattle.kv_tree.proofs.FillLemmas.{node_kid, shape_inner, own_level, depth_is}
+use Rattle.kv_tree.proofs.FillLemmas.{node_kid, depth_is}
 use Rattle.kv_tree.proofs.FillLemmas.{inner_is}
-use Rattle.kv_tree.proofs.SetLemmas.{weave_set_kid, length_set, grown_nodes, grown_inner}
+use Rattle.kv_tree.proofs.SetLemmas.{weave_set_kid, grown_nodes, grown_inner}
 
 -- other keys stay
 pub without_past : (q : List ℕ) (a b : List Pair) → Past q a → without q (a ++ b) ≡ a ++ without q b

@@ -1,26 +1,23 @@
 -- A node after one of its own pairs or kids is replaced, or after a pair and a kid are inserted.
-use Rattle.std.proofs.Common.{◌≡◌, ℕ, zero, suc, ◌+◌, ◌-◌, ◌*◌, ◌<◌, ◌≤◌, T, List, [], ◌∷◌, ◌++◌}
+use Rattle.std.proofs.Common.{◌≡◌, ℕ, zero, suc, ◌+◌, ◌*◌, ◌<◌, ◌≤◌, List, [], ◌∷◌, ◌++◌}
 use Rattle.std.proofs.Common.{length, get_or, set, take, drop, length-append}
-use Rattle.std.proofs.Common.{Option, Some, None, IfNone, Ordering, Less, Equal, Greater, IsTrue}
+use Rattle.std.proofs.Common.{Option, Some, None, IfNone, Less, Equal, Greater}
 use Rattle.std.proofs.Common.{refl, sym, ap, ◌∙◌, subst, arith}
-use Rattle.std.proofs.Common.{◌⊎◌, inl, inr, Bool, true, false}
+use Rattle.std.proofs.Common.{inl, inr, Bool, true, false}
 use Rattle.std.proofs.lemmas.Bool.{cases_lt}
 use Rattle.std.proofs.lemmas.List.{append_assoc}
-use Rattle.std.specs.List.{insert, remove}
-use Rattle.std.specs.Ordering.{nat_cmp}
-use Rattle.std.specs.Cmp.Lexicographic.{slice_cmp}
+use Rattle.std.specs.List.{insert}
 use Rattle.std.specs.FinMap.Entries.{put, by_order}
 use Rattle.std.proofs.lemmas.Cmp.{nat_list_cmp_total}
 use Rattle.kv_index.specs.declared.entry.Entry.{Entry}
-use Rattle.kv_index.specs.Places.{HasRisingKeys, IsAt, IsGap}
-use Rattle.kv_index.proofs.PlacesLemmas.{at_ties, at-lt, gap-le, put_gap}
+use Rattle.kv_index.specs.Places.{HasRisingKeys, IsGap}
+use Rattle.kv_index.proofs.PlacesLemmas.{put_gap}
 use Rattle.kv_tree.specs.Subtree.{Pair, Subtree, weave, behind, subtree, depth_over, level_of}
 use Rattle.kv_tree.specs.Subtree.{sum_in, nodes_in, inner_in, inner_over, IsKid, AreKids, IsShape}
-use Rattle.kv_tree.specs.Subtree.{IsNode}
 use Rattle.kv_tree.specs.Subtree.{Spares, HasRoom, HasWidth, TakesAtMost, new_keys}
-use Rattle.kv_tree.proofs.WeaveLemmas.{append_none, order, AtKid, AtItem, IsFocus, put_focus}
+use Rattle.kv_tree.proofs.WeaveLemmas.{append_none, order, AtKid, AtItem, put_focus}
 use Rattle.kv_tree.proofs.WeaveLemmas.{put_item}
-use Rattle.kv_tree.proofs.WeaveLemmas.{leaf_weave, kid_level}
+use Rattle.kv_tree.proofs.WeaveLemmas.{leaf_weave}
 use Rattle.kv_tree.proofs.WeaveLemmas.{shape_length}
 use Rattle.kv_tree.proofs.FillLemmas.{weave_full, weave_full_at, node_kid, shape_inner}
 use Rattle.kv_tree.proofs.FillLemmas.{own_level, depth_is, inner_wide, inner_wide_at}

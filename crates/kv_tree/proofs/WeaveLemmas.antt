@@ -1,23 +1,22 @@
 -- The pairs of a node are those before one of its kids, the kid's, and those behind it.
-use Rattle.std.proofs.Common.{◌≡◌, ℕ, zero, suc, ◌+◌, ◌<◌, ◌≤◌, T, Bool, true, false, cond, not}
-use Rattle.std.proofs.Common.{◌&&◌, List, [], ◌∷◌, ◌++◌, length, get_or, set, take, drop}
-use Rattle.std.proofs.Common.{Option, Some, None, Ordering, Less, Equal, Greater, IsTrue, refl, sym}
+use Rattle.std.proofs.Common.{◌≡◌, ℕ, zero, suc, ◌+◌, ◌<◌, ◌≤◌, T, Bool, true, false, cond}
+use Rattle.std.proofs.Common.{List, [], ◌∷◌, ◌++◌, length, get_or, take, drop}
+use Rattle.std.proofs.Common.{Some, None, Ordering, Less, Equal, Greater, IsTrue, refl, sym}
 use Rattle.std.proofs.Common.{ap, ◌∙◌, subst, arith}
 use Rattle.std.proofs.lemmas.List.{append_assoc}
-use Rattle.std.specs.List.{insert, remove}
-use Rattle.std.specs.Ordering.{nat_cmp, is_lt, is_eq, is_gt, eq_by_cmp, ordering_reverse}
-use Rattle.std.specs.Cmp.{tied_itself}
+use Rattle.std.specs.Ordering.{nat_cmp, is_lt, is_eq, is_gt, ordering_reverse}
 use Rattle.std.specs.Cmp.Lexicographic.{slice_cmp}
 use Rattle.std.specs.FinMap.{find, is_sorted}
-use Rattle.std.specs.FinMap.Entries.{put, where_key, below_all}
+use Rattle.std.specs.FinMap.Entries.{put, below_all}
 use Rattle.std.proofs.lemmas.Cmp.{nat_list_cmp_total}
 use Rattle.kv_index.specs.declared.entry.Entry.{Entry}
 use Rattle.kv_index.specs.Places.{HasRisingKeys, IsAt, IsGap}
 use Rattle.kv_index.proofs.EntriesLemmas.{one_key}
 use Rattle.kv_index.proofs.PlacesLemmas.{at_ties, at-lt, gap-le, find_gap, both, first, second}
 use Rattle.kv_index.proofs.PlacesLemmas.{less, is_less, by}
-use Rattle.kv_tree.specs.Subtree.{Past, Pair, Subtree, weave, behind, IsShape, IsNode, IsKid, AreKids}
-use Rattle.kv_tree.specs.Subtree.{subtree, depth_over, level_of, entry_of, next_from}
+use Rattle.kv_tree.specs.Subtree.{Past, Pair, Subtree, weave, behind, IsShape, IsNode, IsKid}
+use Rattle.kv_tree.specs.Subtree.{AreKids}
+use Rattle.kv_tree.specs.Subtree.{subtree, depth_over, level_of, next_from}
 
 abbrev pub order : List ℕ → List ℕ → Ordering
 order = slice_cmp nat_cmp

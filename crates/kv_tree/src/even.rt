@@ -118,7 +118,7 @@ fn shift_right(left: &mut Node, middle: Item, mut right: Node) -> (Item, Node)
     (up, right)
 }
 
-// Makes the kid at this place half full again, where it wants an item.
+/// Makes the kid at this place half full again, where it wants an item.
 pub fn refill(items: &mut Vec<Item>, kids: &mut Vec<Node>, at: usize, pool: &mut Pool)
     requires level { AreKidsBut at (level_of kids.old.items) kids.old.items }
     requires lengths { vec_len kids.old ≡ vec_len items.old + 1 }

@@ -72,8 +72,7 @@ impl Item {
         self.entry = entry;
     }
 
-    /// 1 where its head is below this one, and then its key is below each key with that head; else
-    /// 0.
+    /// 1 where its head is below this one, so that its key is below each key with that head; or 0.
     pub fn below(&self, number: u64) -> usize
         ensures most { result ≤ 1 }
         ensures less { result ≡ 1 → (key : List ℕ) → HasHead key number

@@ -1,7 +1,7 @@
 ghost use Rattle.std.specs.Prelude.{◌≡◌, ◌+◌, ◌-◌, ◌<◌, ◌≤◌, [], ◌∷◌, ◌++◌, insert, vec_len};
 ghost use Rattle.std.specs.Prelude.{vec_capacity};
 
-// Inserts where there is room, which takes no memory.
+/// Inserts where there is room, which takes no memory.
 pub fn insert_within<T: Drop>(items: &mut Vec<T>, at: usize, item: T)
     requires bounds { at ≤ vec_len items.old }
     requires room { vec_len items.old < vec_capacity items.old }
@@ -12,7 +12,7 @@ pub fn insert_within<T: Drop>(items: &mut Vec<T>, at: usize, item: T)
     let _ = items.insert(at, item);
 }
 
-// Appends where there is room, which takes no memory.
+/// Appends where there is room, which takes no memory.
 pub fn push_within<T: Drop>(items: &mut Vec<T>, item: T)
     requires room { vec_len items.old < vec_capacity items.old }
     ensures items { items.new.items ≡ items.old.items ++ item ∷ [] }
@@ -22,7 +22,7 @@ pub fn push_within<T: Drop>(items: &mut Vec<T>, item: T)
     let _ = items.push(item);
 }
 
-// Takes the last item out.
+/// Takes the last item out.
 pub fn take_last<T: Drop>(items: &mut Vec<T>) -> T
     requires { 0 < vec_len items.old }
     ensures items { items.old.items ≡ items.new.items ++ result ∷ [] }
@@ -35,7 +35,7 @@ pub fn take_last<T: Drop>(items: &mut Vec<T>) -> T
     }
 }
 
-// Moves what stands from this place on into an empty vector.
+/// Moves what stands from this place on into an empty vector.
 pub fn move_tail<T: Drop>(from: &mut Vec<T>, at: usize, to: &mut Vec<T>)
     requires empty { to.old.items ≡ [] }
     requires room { vec_len from.old ≤ at + vec_capacity to.old }
@@ -52,7 +52,7 @@ pub fn move_tail<T: Drop>(from: &mut Vec<T>, at: usize, to: &mut Vec<T>)
     to.reverse();
 }
 
-// Moves all items to the end of another vector.
+/// Moves all items to the end of another vector.
 pub fn append_within<T: Drop>(to: &mut Vec<T>, from: &mut Vec<T>)
     requires room { vec_len to.old + vec_len from.old ≤ vec_capacity to.old }
     ensures items { to.new.items ≡ to.old.items ++ from.old.items }
@@ -65,7 +65,7 @@ pub fn append_within<T: Drop>(to: &mut Vec<T>, from: &mut Vec<T>)
     let _ = to.append(from);
 }
 
-// Moves the first item, if there is one, to the end of the vector before it.
+/// Moves the first item, if there is one, to the end of the vector before it.
 pub fn move_first<T: Drop>(to: &mut Vec<T>, from: &mut Vec<T>)
     requires room { 0 < vec_len from.old → vec_len to.old < vec_capacity to.old }
     ensures items { to.new.items ++ from.new.items ≡ to.old.items ++ from.old.items }
@@ -82,7 +82,7 @@ pub fn move_first<T: Drop>(to: &mut Vec<T>, from: &mut Vec<T>)
     }
 }
 
-// Moves the last item, if there is one, to the front of the vector behind it.
+/// Moves the last item, if there is one, to the front of the vector behind it.
 pub fn move_last<T: Drop>(from: &mut Vec<T>, to: &mut Vec<T>)
     requires room { 0 < vec_len from.old → vec_len to.old < vec_capacity to.old }
     ensures items { from.new.items ++ to.new.items ≡ from.old.items ++ to.old.items }
@@ -99,7 +99,7 @@ pub fn move_last<T: Drop>(from: &mut Vec<T>, to: &mut Vec<T>)
     }
 }
 
-// Takes the first item out.
+/// Takes the first item out.
 pub fn take_first<T: Drop>(items: &mut Vec<T>) -> T
     requires { 0 < vec_len items.old }
     ensures items { items.old.items ≡ result ∷ items.new.items }

@@ -87,8 +87,7 @@ impl Node {
     }
 
     /// Gives the key this entry, and answers whether it was there. Where the node overflows, what
-    /// is
-    /// right of its middle item comes back.
+    /// is right of its middle item comes back.
     pub fn set(&mut self, number: u64, pool: &mut Pool, item: Item) -> (bool, Option<(Item, Node)>)
         requires rising { HasRisingKeys (slice_cmp nat_cmp) self.old.pairs }
         requires number { HasHead item.0 number }

@@ -9,8 +9,7 @@ use std::alloc::Global;
 use std::marker::Model;
 
 /// Nodes that stand ready, so that a change takes no memory. A node gets room for kids only where
-/// it
-/// becomes more than a leaf.
+/// it becomes more than a leaf.
 #[derive(Drop)]
 pub struct Pool {
     nodes: Vec<Node>,

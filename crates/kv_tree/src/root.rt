@@ -41,8 +41,8 @@ fn two_kids(left: Node, right: Node, mut kids: Vec<Node>) -> Vec<Node>
     kids
 }
 
-// Gives the key this entry in the tree of the root, which may grow by a level, and answers whether
-// the key was there.
+/// Gives the key this entry in the tree of the root, which may grow by a level, and answers whether
+/// the key was there.
 pub fn set_below(root: &mut Node, number: u64, pool: &mut Pool, item: Item) -> bool
     requires rising { HasRisingKeys (slice_cmp nat_cmp) root.old.pairs }
     requires number { HasHead item.0 number }
@@ -72,7 +72,7 @@ pub fn set_below(root: &mut Node, number: u64, pool: &mut Pool, item: Item) -> b
     found
 }
 
-// Takes a key out of the tree of the root, which may lose a level.
+/// Takes a key out of the tree of the root, which may lose a level.
 pub fn remove_below(root: &mut Node, number: u64, key: &[u8], pool: &mut Pool) -> Option<Entry>
     requires rising { HasRisingKeys (slice_cmp nat_cmp) root.old.pairs }
     requires number { HasHead key.now number }

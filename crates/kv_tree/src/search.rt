@@ -10,7 +10,7 @@ ghost use Rattle.kv_tree.specs.Head.{HasHead};
 use crate::item::Item;
 use std::cmp::Ordering;
 
-// Where the key stands, or else where it would.
+/// Where the key stands, or else where it would.
 pub fn place_of(items: &[Item], number: u64, key: &[u8]) -> Result<usize, usize>
     requires rising { HasRisingKeys (slice_cmp nat_cmp) items.now }
     requires number { HasHead key.now number }
@@ -29,8 +29,8 @@ pub fn place_of(items: &[Item], number: u64, key: &[u8]) -> Result<usize, usize>
     }
 }
 
-// How many items come before each key with this head, by their heads alone. The ends come first, for
-// keys in order. Then all heads are looked at: that takes no branch that may be guessed wrong.
+// How many items come before each key with this head, by their heads alone. The ends come first,
+// for keys in order. Then all heads are looked at, which takes no branch that may be guessed wrong.
 fn count_below(items: &[Item], number: u64) -> usize
     requires { HasRisingKeys (slice_cmp nat_cmp) items.now }
     ensures bound { result ≤ length items.now }

@@ -9,7 +9,7 @@ use crate::moves::{move_tail, take_last};
 use crate::node::Node;
 use crate::pool::Pool;
 
-// Where there are too many items, moves those right of the middle one into a node of their own.
+/// Where there are too many items, moves those right of the middle one into a node of their own.
 pub fn split_over(
     items: &mut Vec<Item>,
     kids: &mut Vec<Node>,

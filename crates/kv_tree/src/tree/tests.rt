@@ -121,8 +121,7 @@ fn all_alike(
 }
 
 // Around a full node, of 31 keys; around a full root over leaves, which rising keys split at key 32
-// and
-// then at each 17th: 32 + 31 * 17 = 559; and three levels.
+// and then at each 17th: 32 + 31 * 17 = 559; and three levels.
 static SIZES: [u32; 9] = [1, 15, 16, 31, 32, 33, 558, 559, 1100];
 
 // What is done in turn. The second filling comes after the index is empty again.

@@ -1,7 +1,7 @@
-use Rattle.std.proofs.Common.{◌≡◌, ◌+◌, ◌<◌, ◌≤◌, ℕ, suc, List, [], ◌∷◌, ◌++◌, length, get_or, set}
-use Rattle.std.proofs.Common.{sym, ap, ◌∙◌, subst, add-one, arith}
+use Rattle.std.proofs.Common.{◌≡◌, ◌+◌, set}
+use Rattle.std.proofs.Common.{sym, ap, ◌∙◌, arith}
 use Rattle.std.specs.List.{insert, remove}
-use Rattle.kv_tree.specs.Subtree.{Subtree, Pair, IsKid, nodes_in, inner_over, level_of}
+use Rattle.kv_tree.specs.Subtree.{nodes_in, inner_over}
 use Rattle.kv_tree.proofs.RefillLemmas.{IsEvened, Two, two_kids, two_merged, two_evened}
 use Rattle.kv_tree.proofs.RefillLemmas.{two_merged_nodes, two_evened_nodes, two_merged_inner}
 use Rattle.kv_tree.proofs.RefillLemmas.{two_evened_inner}

@@ -1,7 +1,7 @@
-use Rattle.std.proofs.Common.{◌≡◌, ◌<◌, List, [], ◌∷◌, ◌++◌, length, sym, ap, ◌∙◌, subst, arith}
+use Rattle.std.proofs.Common.{◌≡◌, List, [], ◌∷◌, ◌++◌, length, sym, ap, ◌∙◌, arith}
 use Rattle.std.proofs.lemmas.List.{append_assoc}
 use Rattle.std.specs.Global.{Vec}
-use Rattle.kv_tree.specs.Subtree.{Subtree, Pair, IsKid}
+use Rattle.kv_tree.specs.Subtree.{Subtree, Pair}
 use Rattle.kv_tree.proofs.FillLemmas.{IsMerged, merged, same_kind, merge_counts}
 use Rattle.kv_tree.proofs.even.merge.Goals as goal
 
@@ -44,7 +44,8 @@ invariant_of-left c =
       kid_room = λ some. omega (
         arith,
         c.left.invariant.kid_room
-            (same_kind (c.left.inside.kids.items ++ c.right.inside.kids.items) c.left.inside.kids.items
+            (same_kind (c.left.inside.kids.items ++ c.right.inside.kids.items)
+            c.left.inside.kids.items
             k.kid.depth some),
         c.join_kids.ensures.capacity,
       );

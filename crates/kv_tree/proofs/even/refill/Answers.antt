@@ -1,6 +1,6 @@
-use Rattle.std.proofs.Common.{◌≡◌, ◌≤◌, ◌<◌, length, ap, subst, sym, arith}
+use Rattle.std.proofs.Common.{◌≤◌, ◌<◌, subst, arith}
 use Rattle.kv_tree.specs.Subtree.{Subtree}
-use Rattle.kv_tree.proofs.FillLemmas.{own_level, shape_inner}
+use Rattle.kv_tree.proofs.FillLemmas.{shape_inner}
 use Rattle.kv_tree.proofs.RefillLemmas.{thin_at, but_enough}
 use Rattle.kv_tree.proofs.even.refill.Goals as goal
 

@@ -1,8 +1,8 @@
-use Rattle.std.proofs.Common.{◌≡◌, ◌<◌, List, [], ◌∷◌, ◌++◌, length, sym, ap, ◌∙◌, subst, arith}
+use Rattle.std.proofs.Common.{◌≡◌, ◌<◌, List, [], ◌∷◌, ◌++◌, length, sym, ap, ◌∙◌, arith}
 use Rattle.std.proofs.lemmas.List.{append_assoc}
-use Rattle.kv_tree.specs.Subtree.{Subtree, Pair, IsKid}
+use Rattle.kv_tree.specs.Subtree.{Subtree, Pair}
 use Rattle.kv_tree.proofs.WeaveLemmas.{shape_length}
-use Rattle.kv_tree.proofs.FillLemmas.{IsRecut, IsRecutWell, recut, same_kind}
+use Rattle.kv_tree.proofs.FillLemmas.{IsRecutWell, recut, same_kind}
 use Rattle.kv_tree.proofs.even.shift_left.Goals as goal
 
 -- where the right has kids, the left has room for one more

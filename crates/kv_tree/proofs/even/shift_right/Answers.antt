@@ -1,8 +1,8 @@
-use Rattle.std.proofs.Common.{◌≡◌, ◌<◌, List, [], ◌∷◌, ◌++◌, length, sym, ap, ◌∙◌, subst, arith}
+use Rattle.std.proofs.Common.{◌≡◌, ◌<◌, List, [], ◌∷◌, ◌++◌, length, sym, ap, ◌∙◌, arith}
 use Rattle.std.proofs.lemmas.List.{append_assoc}
-use Rattle.kv_tree.specs.Subtree.{Subtree, Pair, IsKid}
+use Rattle.kv_tree.specs.Subtree.{Subtree, Pair}
 use Rattle.kv_tree.proofs.WeaveLemmas.{shape_length}
-use Rattle.kv_tree.proofs.FillLemmas.{IsRecut, IsRecutWell, recut, same_kind}
+use Rattle.kv_tree.proofs.FillLemmas.{IsRecutWell, recut, same_kind}
 use Rattle.kv_tree.proofs.even.shift_right.Goals as goal
 
 -- where the left has kids, the right has room for one more
@@ -92,7 +92,8 @@ invariant_of-right c =
       kid_room = λ some. omega (
         arith,
         c.right.invariant.kid_room
-            (same_kind c.move_last.new.to.items c.right.inside.kids.items (k.right.depth ∙ sym k.same)
+            (same_kind c.move_last.new.to.items c.right.inside.kids.items
+            (k.right.depth ∙ sym k.same)
             some),
         c.move_last.ensures.capacity,
       );

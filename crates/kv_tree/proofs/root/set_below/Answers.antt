@@ -1,4 +1,4 @@
-use Rattle.std.proofs.Common.{◌<◌, arith}
+use Rattle.std.proofs.Common.{arith}
 use Rattle.kv_tree.specs.Subtree.{new_keys}
 use Rattle.kv_tree.proofs.SetLemmas.{top_inner, top_left, one_key_more}
 use Rattle.kv_tree.proofs.root.set_below.Goals as goal

@@ -1,7 +1,4 @@
-use Rattle.std.proofs.Common.{◌≡◌, ◌≤◌, ◌<◌, Equal, Less, Greater, length, sym, ap, ◌∙◌, arith}
-use Rattle.std.specs.Ordering.{nat_cmp}
-use Rattle.std.specs.Cmp.Lexicographic.{slice_cmp}
-use Rattle.kv_tree.specs.Subtree.{Pair}
+use Rattle.std.proofs.Common.{Equal, Greater, arith}
 use Rattle.kv_tree.proofs.SearchLemmas.{at_place, gap_place, turned}
 use Rattle.kv_tree.proofs.search.place_of.Goals as goal
 
@@ -10,7 +7,8 @@ pub returns-then-at-items-clause-absent : goal.returns-then-at-items-clause-abse
 returns-then-at-items-clause-absent c =
     gap_place c.args.key.now c.args.items.now c.count_below-at.result
     (c.args.key.now, record { stamp = 0; place = record { class = 0; slot = 0 } })
-    (c.count_below-at.ensures.past c.args.key.now c.requires.number) (omega arith) (λ lt. absurd (omega arith))
+    (c.count_below-at.ensures.past c.args.key.now c.requires.number) (omega arith)
+    (λ lt. absurd (omega arith))
 
 -- it stands where the items before it end
 pub returns-in-Equal-clause-found : goal.returns-in-Equal-clause-found

@@ -1,5 +1,5 @@
-use Rattle.std.proofs.Common.{◌+◌, ◌<◌, ◌++◌, length, length-append, ap, ◌∙◌, arith}
-use Rattle.kv_tree.proofs.FillLemmas.{IsCut, IsCutWell, cut, split_counts}
+use Rattle.std.proofs.Common.{◌++◌, length, length-append, ap, ◌∙◌, arith}
+use Rattle.kv_tree.proofs.FillLemmas.{IsCutWell, cut, split_counts}
 use Rattle.kv_tree.proofs.split.split_over.Goals as goal
 
 -- the items and the kids are cut at the middle item

@@ -1,11 +1,11 @@
-use Rattle.std.proofs.Common.{◌≡◌, ◌+◌, ◌-◌, ◌<◌, ◌≤◌, List, [], ◌∷◌, ◌++◌, length, set, Some, sym}
-use Rattle.std.proofs.Common.{ap, ◌∙◌, subst, arith}
+use Rattle.std.proofs.Common.{◌<◌, ◌≤◌, length, set, Some, sym}
+use Rattle.std.proofs.Common.{ap, ◌∙◌, arith}
 use Rattle.std.proofs.lemmas.Cmp.{nat_list_cmp_total}
 use Rattle.kv_index.proofs.PlacesLemmas.{at-lt, gap-le}
-use Rattle.kv_tree.specs.Subtree.{Subtree, Pair, weave}
+use Rattle.kv_tree.specs.Subtree.{Pair, weave}
 use Rattle.kv_tree.proofs.WeaveLemmas.{own_rising, at_kid, at_item, find_item, find_focus}
 use Rattle.kv_tree.proofs.WeaveLemmas.{find_leaf}
-use Rattle.kv_tree.proofs.RemoveLemmas.{IsKidOf, ok_kid, err_kid, IsShrunk, shrunk_level}
+use Rattle.kv_tree.proofs.RemoveLemmas.{ok_kid, err_kid, IsShrunk, shrunk_level}
 use Rattle.kv_tree.proofs.RemoveLemmas.{shrunk_nodes, shrunk_inner, shrunk_depth, shrunk_pull}
 use Rattle.kv_tree.proofs.RemoveLemmas.{still_kid, leaf_without, leaf_same, without_kid}
 use Rattle.kv_tree.proofs.node.Node.+remove.Goals as goal

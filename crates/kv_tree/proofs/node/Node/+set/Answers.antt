@@ -1,12 +1,11 @@
-use Rattle.std.proofs.Common.{◌≡◌, ◌+◌, ◌<◌, ◌≤◌, length, set, Some, IfNone, is_some, sym, ap, ◌∙◌}
+use Rattle.std.proofs.Common.{◌≡◌, ◌+◌, ◌<◌, ◌≤◌, length, set, is_some, sym, ap, ◌∙◌}
 use Rattle.std.proofs.Common.{subst, suc, add-one, arith}
 use Rattle.std.specs.List.{insert}
 use Rattle.kv_index.proofs.PlacesLemmas.{at-lt, gap-le}
 use Rattle.std.proofs.lemmas.Cmp.{nat_list_cmp_total}
 use Rattle.kv_index.specs.declared.entry.Entry.{Entry}
 use Rattle.kv_tree.specs.Subtree.{Subtree, IsKid, subtree, nodes_in, inner_over}
-use Rattle.kv_tree.proofs.FillLemmas.{node_kid}
-use Rattle.kv_tree.proofs.WeaveLemmas.{own_rising, AtKid, at_kid, at_item, find_item, find_focus}
+use Rattle.kv_tree.proofs.WeaveLemmas.{own_rising, at_kid, at_item, find_item, find_focus}
 use Rattle.kv_tree.proofs.WeaveLemmas.{find_leaf}
 use Rattle.kv_tree.proofs.SetLemmas.{put_own, shape_set, length_set, Grown, grown_kid, grown_split}
 use Rattle.kv_tree.proofs.SetLemmas.{grown_nodes, grown_inner, split_nodes, split_inner, grown_leaf}
@@ -48,7 +47,8 @@ set-found-requires t c =
     let some : 0 < length c.self.inside.kids.items = omega (arith, c.self.inside.kids.ok.0) in
     let k = at_kid _ _ _ _ _ _ _ _ c.self.view_is c.self.invariant c.requires.rising gap some
     c.index_mut-kid.ensures.value in
-    let le : c.in-Err.at ≤ length c.self.inside.items.items = gap-le nat_list_cmp_total _ _ _ gap in (
+    let le : c.in-Err.at ≤ length c.self.inside.items.items = gap-le nat_list_cmp_total _ _ _
+    gap in (
       omega (arith, k.falls),
       (
         k.rising,
@@ -58,10 +58,12 @@ set-found-requires t c =
             k.fits.high,
             (
               kid_room _ _ _ _ _ c.args.pool.now c.self.view_is c.self.invariant.kids
-                  c.self.invariant.shape (omega (arith, k.lengths)) c.index_mut-kid.ensures.value k.fits
+                  c.self.invariant.shape (omega (arith, k.lengths)) c.index_mut-kid.ensures.value
+                  k.fits
                   c.requires.room,
               kid_width _ _ _ _ _ c.args.pool.now c.self.view_is c.self.invariant.kids
-                  c.self.invariant.shape (omega (arith, k.lengths)) c.index_mut-kid.ensures.value k.fits
+                  c.self.invariant.shape (omega (arith, k.lengths)) c.index_mut-kid.ensures.value
+                  k.fits
                   c.requires.width,
             ),
           ),

@@ -1,6 +1,6 @@
-use Rattle.std.proofs.Common.{◌≡◌, ◌+◌, ◌-◌, ◌<◌, ◌≤◌, List, [], ◌∷◌, ◌++◌, length, sym, ap, ◌∙◌}
-use Rattle.std.proofs.Common.{subst, arith}
-use Rattle.kv_tree.specs.Subtree.{Subtree, Pair}
+use Rattle.std.proofs.Common.{◌-◌, List, [], ◌∷◌, ◌++◌, sym, ap, ◌∙◌}
+use Rattle.std.proofs.Common.{arith}
+use Rattle.kv_tree.specs.Subtree.{Pair}
 use Rattle.kv_tree.proofs.RemoveLemmas.{IsKidOf, kid_of, IsShrunk, shrunk_level, shrunk_nodes}
 use Rattle.kv_tree.proofs.RemoveLemmas.{shrunk_inner, shrunk_depth, shrunk_last, still_kid}
 use Rattle.kv_tree.proofs.node.Node.+take_greatest.Goals as goal

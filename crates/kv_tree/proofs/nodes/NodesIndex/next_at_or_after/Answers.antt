@@ -1,4 +1,3 @@
-use Rattle.std.proofs.Common.{sym, ◌∙◌}
 use Rattle.kv_tree.proofs.MapLemmas.{next_is}
 use Rattle.kv_tree.proofs.nodes.NodesIndex.next_at_or_after.Goals as goal
 

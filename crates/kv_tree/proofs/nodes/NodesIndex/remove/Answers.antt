@@ -1,4 +1,4 @@
-use Rattle.std.proofs.Common.{◌≡◌, ◌+◌, ◌<◌, ◌^◌, ◌-◌, List, ℕ, length, Option, Some, None, sym, ap}
+use Rattle.std.proofs.Common.{◌≡◌, ◌+◌, length, sym}
 use Rattle.std.proofs.Common.{◌∙◌, arith}
 use Rattle.kv_tree.proofs.MapLemmas.{get_is, without_rising, without_map, without_some}
 use Rattle.kv_tree.proofs.MapLemmas.{without_none}

@@ -1,4 +1,4 @@
-use Rattle.std.proofs.Common.{◌≡◌, ◌+◌, ◌<◌, ◌^◌, ◌-◌, length, true, false, is_some, sym, ap, ◌∙◌}
+use Rattle.std.proofs.Common.{◌≡◌, true, false, sym, ap, ◌∙◌}
 use Rattle.std.proofs.Common.{arith, rules}
 use Rattle.kv_index.proofs.EntriesLemmas.{len_is}
 use Rattle.kv_tree.specs.Subtree.{new_keys}

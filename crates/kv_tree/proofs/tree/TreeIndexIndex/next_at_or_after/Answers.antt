@@ -1,4 +1,3 @@
-use Rattle.std.proofs.Common.{sym}
 use Rattle.kv_tree.proofs.MapLemmas.{nothing_found}
 use Rattle.kv_tree.proofs.tree.TreeIndexIndex.next_at_or_after.Goals as goal
 

@@ -1,4 +1,3 @@
-use Rattle.std.proofs.Common.{sym}
 use Rattle.kv_tree.proofs.MapLemmas.{nothing_spare}
 use Rattle.kv_tree.proofs.tree.TreeIndexIndex.set.Goals as goal
 

@@ -3,10 +3,7 @@ use Rattle.std.specs.Prelude.{ℕ, zero, suc, ◌+◌, ◌-◌, List, [], ◌∷
 use Rattle.std.specs.Prelude.{if◌then◌else◌}
 use Rattle.std.specs.List.{sum_by, flat_map}
 use Rattle.std.specs.Int.{w16, w32, w64, to_le_bytes}
-
--- a key and its value
-abbrev pub KeyValue : Type 0
-KeyValue = List ℕ × List ℕ
+pub use Rattle.kv_model.specs.Items.{KeyValue}
 
 -- which fold: the number of items, the sum of the value lengths, the sum of all value bytes, or the
 -- first items, at most so many

@@ -1,6 +1,6 @@
 -- Lemmas on bytes that pass through a source or a sink.
-use Rattle.std.proofs.Common.{◌≡◌, ℕ, ◌+◌, ◌-◌, ◌≤◌, List, [], ◌++◌, length, take, drop, slice_range}
-use Rattle.std.proofs.Common.{refl, sym, ap, ◌∙◌, arith, rules, append_assoc, length-append}
+use Rattle.std.proofs.Common.{◌≡◌, ℕ, ◌+◌, ◌≤◌, List, [], ◌++◌, length, take, drop}
+use Rattle.std.proofs.Common.{refl, sym, ap, ◌∙◌, arith, append_assoc}
 use Rattle.std.proofs.Common.{length-drop, Option, None, Some}
 use Rattle.std.proofs.lemmas.List.{take_at, take-append-drop, drop-drop, length-take-le, drop-take}
 use Rattle.std.proofs.lemmas.List.{take-take, append-nil}

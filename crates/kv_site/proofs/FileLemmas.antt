@@ -1,14 +1,14 @@
 -- Lemmas on a disk of files of which one changes.
-use Rattle.std.proofs.Common.{◌≡◌, ◌≢◌, ◌⊎◌, inl, inr, ℕ, zero, suc, ◌+◌, ◌<◌, ◌==◌, Bool, true, false}
+use Rattle.std.proofs.Common.{◌≡◌, inl, inr, ℕ, zero, suc, ◌<◌, ◌==◌, Bool, true}
 use Rattle.std.proofs.Common.{List, [], ◌∷◌, ◌++◌, length, map, set, drop, replicate, get_or}
 use Rattle.std.proofs.Common.{refl, sym, ap, subst₂, ◌∙◌, arith, Result, OnOk, Ok, Err}
 use Rattle.std.proofs.lemmas.Bool.{cases_eq, cond-true, cond-false, eq-eqb, ne_eqb}
 use Rattle.std.proofs.lemmas.List.{map-set, get_or-map, get_or-set_same, get_or-set_other}
 use Rattle.std.proofs.lemmas.List.{length-map}
 use Rattle.std.proofs.Math.Seq.{map-set_same}
-use Rattle.kv_base.specs.Image.{Image, zero_page, with_page}
+use Rattle.kv_base.specs.Image.{zero_page, with_page}
 use Rattle.kv_base.specs.Crash.{WrittenOrNot}
-use Rattle.kv_base.proofs.ImageLemmas.{same_image, one_place, with_page-at, with_page-other}
+use Rattle.kv_base.proofs.ImageLemmas.{same_image, with_page-at, with_page-other}
 use Rattle.kv_base.specs.Fault.{Counted}
 use Rattle.kv_site.specs.PageFile.{put_page, IsPutOrNot, image_in, CountedIn}
 

@@ -1,4 +1,4 @@
-use Rattle.std.proofs.Common.{◌≡◌, ◌<◌, ◌+◌, suc, true, false, map, set, get_or, length, drop}
+use Rattle.std.proofs.Common.{◌≡◌, ◌<◌, ◌+◌, suc, true, map, set, get_or, length, drop}
 use Rattle.std.proofs.Common.{replicate, ◌++◌, ap, sym, ◌∙◌, arith, Bool, List}
 use Rattle.std.proofs.lemmas.List.{map-set, get_or-map, length-map}
 use Rattle.std.proofs.Math.Seq.{map-set_same}

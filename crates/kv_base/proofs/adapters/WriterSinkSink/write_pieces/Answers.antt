@@ -1,5 +1,4 @@
 use Rattle.std.proofs.Common.{length, subst, sym, leb, arith}
-use Rattle.std.specs.List.{prefix_len}
 use Rattle.std.proofs.lemmas.List.Sums.{prefix_len-le-length}
 use Rattle.kv_base.proofs.PieceLemmas.{IsWhole, whole-is, counted-whole}
 use Rattle.kv_base.proofs.adapters.WriterSinkSink.write_pieces.Goals as goal

@@ -1,7 +1,7 @@
 use Rattle.std.proofs.Common.{◌≡◌, ◌<◌, map, set, get_or, length, List, ap, sym, subst, ◌∙◌, arith}
 use Rattle.std.proofs.Math.Seq.{map-set_same}
 use Rattle.kv_base.specs.Fault.{Counted}
-use Rattle.kv_site.specs.PageFile.{DiskFiles, image_in, IsPutOrNot, CountedIn}
+use Rattle.kv_site.specs.PageFile.{DiskFiles, image_in, CountedIn}
 use Rattle.kv_site.proofs.FileLemmas.{image-kept, counted_in}
 use Rattle.kv_site.proofs.file_disk.FileDiskDisk.length.Goals as goal
 

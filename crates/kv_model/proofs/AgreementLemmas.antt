@@ -1,33 +1,31 @@
 -- The answers to a batch are those of one plain map.
-use Rattle.std.proofs.Common.{◌≡◌, ◌≢◌, ℕ, suc, ◌+◌, ◌-◌, ◌^◌, ◌≤◌, ◌<◌, ◌⊎◌, inl, inr, Bool, true}
-use Rattle.std.proofs.Common.{false, cond, List, [], ◌∷◌, ◌++◌, Option, None, Some, refl, ap, sym, ◌∙◌}
-use Rattle.std.proofs.Common.{subst, arith, append_assoc, append-nil, option_and_then, option_to_list}
-use Rattle.std.proofs.Common.{length, is_some, MatchOption, IsTrue, IsSome, true≢false, filter_map}
-use Rattle.std.specs.List.{AllByRecursion, cons_option}
-use Rattle.std.specs.Option.{option_or}
+use Rattle.std.proofs.Common.{◌≡◌, ℕ, ◌+◌, ◌-◌, ◌≤◌, ◌⊎◌, inl, inr, Bool, true}
+use Rattle.std.proofs.Common.{false, cond, List, [], ◌∷◌, ◌++◌, Option, None, Some, refl, ap, sym}
+use Rattle.std.proofs.Common.{◌∙◌}
+use Rattle.std.proofs.Common.{subst, arith, append_assoc, option_and_then}
+use Rattle.std.proofs.Common.{option_to_list}
+use Rattle.std.proofs.Common.{length, is_some, MatchOption, IsTrue, IsSome, true≢false}
+use Rattle.std.specs.List.{AllByRecursion}
 use Rattle.std.specs.Str.{bytes_eq}
-use Rattle.std.proofs.lemmas.List.Elements.{filter_map-append}
 use Rattle.std.proofs.lemmas.Slice.Eq.{bytes_eq-Decides}
 use Rattle.kv_base.specs.declared.request.Request.{Request}
 use Rattle.kv_base.specs.declared.request.Request.TheVariants.{Put, Get, Delete, Flush}
-use Rattle.kv_base.specs.declared.reply.Reply.{Reply}
-use Rattle.kv_base.specs.declared.reply.Reply.TheVariants.{Stored, Found, Missing, Removed, Absent}
-use Rattle.kv_model.specs.Pairwise.{Pairwise}
 use Rattle.kv_model.specs.History.{Write, value_at}
 use Rattle.kv_model.specs.Layout.{Layout, class_of}
-use Rattle.kv_model.specs.Pairs.{Pair, written, acknowledged, acknowledged_by, stamp_of, stamps, writes, key_of}
-use Rattle.kv_model.specs.Agreement.{AgreesWithMap, IsAnswer, IsMapAnswer, IsRead, refusal_of}
-use Rattle.kv_model.specs.Batch.{Start, last_write, value_or, value_after, is_full, full_class, accepted}
-use Rattle.kv_model.specs.Batch.{behind, accepted_writes, answers, reply_of, put_reply, get_reply}
+use Rattle.kv_model.specs.Pairs.{acknowledged, acknowledged_by}
+use Rattle.kv_model.specs.Pairs.{writes, key_of}
+use Rattle.kv_model.specs.Agreement.{IsAnswer, IsMapAnswer, IsRead}
+use Rattle.kv_model.specs.Batch.{Start, last_write, value_or, value_after, is_full, full_class}
+use Rattle.kv_model.specs.Batch.{accepted}
+use Rattle.kv_model.specs.Batch.{behind, answers, reply_of, put_reply, get_reply}
 use Rattle.kv_model.specs.Batch.{delete_reply, IsTask}
-use Rattle.kv_model.specs.Items.{SameValue, BeginsAt}
-use Rattle.kv_model.specs.BatchLaws.{RiseBetween, AreStamped, pairs_of}
-use Rattle.kv_model.proofs.ReadingLemmas.{AllBelow, AllFrom, RiseBetween-append, RiseBetween-from}
-use Rattle.kv_model.proofs.ReadingLemmas.{option_or-assoc, value_at-rises, latest-append-above}
+use Rattle.kv_model.specs.Items.{SameValue}
+use Rattle.kv_model.specs.BatchLaws.{pairs_of}
+use Rattle.kv_model.proofs.ReadingLemmas.{AllBelow, AllFrom, RiseBetween-from}
+use Rattle.kv_model.proofs.ReadingLemmas.{value_at-rises, latest-append-above}
 use Rattle.kv_model.proofs.ReadingLemmas.{latest-same, AllBelow-append, AllBelow-weaken}
-use Rattle.kv_model.proofs.ReadingLemmas.{RiseBetween-below, RiseBetween-lower}
-use Rattle.kv_model.proofs.NetLemmas.{RiseBetween-accepted, RiseBetween-higher, or_no}
-use Rattle.kv_model.proofs.AnswersLemmas.{HasStamp, HasStamp-reply, IsAbsent, kinds, cons-is}
+use Rattle.kv_model.proofs.ReadingLemmas.{RiseBetween-below}
+use Rattle.kv_model.proofs.AnswersLemmas.{IsAbsent, kinds, cons-is}
 use Rattle.kv_model.proofs.AnswersLemmas.{acknowledged_here, acknowledged_in, value_or-append}
 use Rattle.kv_model.proofs.AnswersLemmas.{RiseBetween-acknowledged, RiseBetween-acknowledged_in}
 
@@ -50,7 +48,7 @@ AllFrom-weaken low high [] le all = tt
 AllFrom-weaken low high (write ∷ writes) le all =
     (omega (arith, all.0), AllFrom-weaken low high writes le all.1)
 
-SameValue-refl : (told : Bool) (value : Option (List ℕ)) → SameValue told value value
+pub SameValue-refl : (told : Bool) (value : Option (List ℕ)) → SameValue told value value
 SameValue-refl told None = tt
 SameValue-refl told (Some value) = λ _. refl
 
@@ -100,7 +98,8 @@ SameValue-behind : (told : Bool) (start : Start) (before : List Write) (stamp : 
 SameValue-behind told start before stamp request history key below equal =
     subst (λ o. SameValue told (value_after start (behind start before stamp request) key) o)
     (sym (value_at-rises (option_to_list (acknowledged_here start before stamp request)) history
-    stamp (stamp + 1) (stamp + 1 - 1) key below (RiseBetween-acknowledged request start before stamp)
+    stamp (stamp + 1) (stamp + 1 - 1) key below (RiseBetween-acknowledged request start before
+    stamp)
     (omega arith)
     ∙ ap (value_or (last_write (option_to_list (acknowledged_here start before stamp request)) key))
     (value-same history stamp (stamp + 1 - 1) (stamp - 1) key below (omega arith) (omega arith))))
@@ -216,7 +215,8 @@ pub answers-agree : (requests : List Request) (told : Bool) (layout : Layout) (s
     → AllByRecursion (λ pair. IsAnswer told layout all pair.request pair.reply)
     (pairs_of requests (answers start before stamp requests))
 answers-agree [] told layout start before history all stamp one below equal same is good = tt
-answers-agree (request ∷ requests) told layout start before history all stamp one below equal same is
+answers-agree (request ∷ requests) told layout start before history all stamp one below equal same
+    is
     good =
     let rest : List Write = acknowledged_in start (behind start before stamp request) (stamp + 1)
     requests in
@@ -228,15 +228,19 @@ answers-agree (request ∷ requests) told layout start before history all stamp 
     stamp request) (stamp + 1)) in (
       subst (λ o. MatchOption o (IsMapAnswer told layout all request (reply_of start before stamp
           request)) (λ refusal. reply_of start before stamp request ≡ refusal)) (sym good.0.good)
-          (subst (λ h. IsMapAnswer told layout h request (reply_of start before stamp request)) (sym parts)
+          (subst (λ h. IsMapAnswer told layout h request (reply_of start before stamp request))
+          (sym parts)
           (head request told layout start before history rest stamp one below equal same above
           good.0.keyed)),
       answers-agree requests told layout start (behind start before stamp request) (history ++ here)
           all (stamp + 1) (omega arith)
-          (AllBelow-append (stamp + 1) history here (AllBelow-weaken stamp (stamp + 1) history (omega
-          arith) below) (RiseBetween-below stamp (stamp + 1) here (RiseBetween-acknowledged request start
+          (AllBelow-append (stamp + 1) history here (AllBelow-weaken stamp (stamp + 1) history
+          (omega
+          arith) below) (RiseBetween-below stamp (stamp + 1) here (RiseBetween-acknowledged request
+          start
           before stamp)))
-          (λ key. SameValue-behind told start before stamp request history key below (equal key)) same
+          (λ key. SameValue-behind told start before stamp request history key below (equal key))
+          same
           (parts ∙ sym (append_assoc history here rest)) good.1,
     )
 

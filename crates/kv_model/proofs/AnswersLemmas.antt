@@ -1,28 +1,26 @@
 -- Lemmas on the answers to a batch and the writes that they acknowledge.
-use Rattle.std.proofs.Common.{◌≡◌, ◌≢◌, ℕ, suc, ◌+◌, ◌-◌, ◌≤◌, ◌<◌, ◌⊎◌, inl, inr, Bool, true, false, cond}
-use Rattle.std.proofs.Common.{List, [], ◌∷◌, ◌++◌, Option, None, Some, refl, ap, sym, ◌∙◌, subst, arith}
-use Rattle.std.proofs.Common.{append_assoc, append-nil, option_and_then, option_to_list, length, is_some}
-use Rattle.std.proofs.Common.{MatchOption, IsTrue, true≢false}
-use Rattle.std.specs.List.{AllByRecursion, cons_option}
+use Rattle.std.proofs.Common.{◌≡◌, ℕ, suc, ◌+◌, ◌⊎◌, inl, inr, Bool, true}
+use Rattle.std.proofs.Common.{false, cond}
+use Rattle.std.proofs.Common.{List, [], ◌∷◌, ◌++◌, Option, None, Some, refl, ap, sym, ◌∙◌, subst}
+use Rattle.std.proofs.Common.{arith}
+use Rattle.std.proofs.Common.{option_to_list, length}
+use Rattle.std.proofs.Common.{is_some}
+use Rattle.std.proofs.Common.{MatchOption, true≢false}
+use Rattle.std.specs.List.{cons_option}
 use Rattle.std.specs.Option.{option_or}
 use Rattle.std.specs.Str.{bytes_eq}
 use Rattle.std.proofs.lemmas.Slice.Eq.{bytes_eq-Decides}
 use Rattle.kv_base.specs.declared.request.Request.{Request}
 use Rattle.kv_base.specs.declared.request.Request.TheVariants.{Put, Get, Delete, Flush}
-use Rattle.kv_model.specs.Pairwise.{Pairwise}
-use Rattle.kv_model.specs.History.{Write, value_at}
-use Rattle.kv_model.specs.Layout.{Layout, class_of}
-use Rattle.kv_model.specs.Pairs.{written, acknowledged_by, stamp_of, stamps, writes}
-use Rattle.kv_model.specs.Agreement.{IsAnswer, IsMapAnswer, IsRead, refusal_of}
-use Rattle.kv_model.specs.Batch.{Start, last_write, value_or, value_after, is_full, full_class, accepted}
+use Rattle.kv_model.specs.History.{Write}
+use Rattle.kv_model.specs.Pairs.{written, acknowledged_by, stamp_of, writes}
+use Rattle.kv_model.specs.Batch.{Start, last_write, value_or, value_after, full_class}
+use Rattle.kv_model.specs.Batch.{accepted}
 use Rattle.kv_model.specs.Batch.{behind, accepted_writes, answers, reply_of, put_reply, get_reply}
 use Rattle.kv_model.specs.Batch.{delete_reply}
-use Rattle.kv_model.specs.Items.{SameValue}
 use Rattle.kv_model.specs.BatchLaws.{RiseBetween, AreStamped, pairs_of}
-use Rattle.kv_model.proofs.ReadingLemmas.{AllBelow, AllFrom, RiseBetween-append, RiseBetween-from}
-use Rattle.kv_model.proofs.ReadingLemmas.{option_or-assoc, value_at-rises, latest-append-above}
-use Rattle.kv_model.proofs.ReadingLemmas.{latest-same, AllBelow-append, AllBelow-weaken}
-use Rattle.kv_model.proofs.ReadingLemmas.{RiseBetween-below}
+use Rattle.kv_model.proofs.ReadingLemmas.{RiseBetween-append}
+use Rattle.kv_model.proofs.ReadingLemmas.{option_or-assoc}
 use Rattle.kv_model.proofs.NetLemmas.{RiseBetween-accepted, RiseBetween-higher, or_no}
 
 -- there are as many replies as requests
@@ -163,6 +161,18 @@ last_write-append (write ∷ writes) others key =
     ∙ option_or-assoc (last_write others key) (last_write writes key)
     (cond (bytes_eq write.key key) (Some write) None)
 
+-- the last write of the key, with one more write behind
+pub last_write-push : (writes : List Write) (write : Write) (key : List ℕ)
+    → last_write (writes ++ write ∷ []) key
+    ≡ cond (bytes_eq write.key key) (Some write) (last_write writes key)
+last_write-push writes write key = last_write-append writes (write ∷ []) key
+    ∙ by (bytes_eq write.key key)
+  where
+    by : (same : Bool) → option_or (cond same (Some write) None) (last_write writes key)
+        ≡ cond same (Some write) (last_write writes key)
+    by true = refl
+    by false = refl
+
 value_or-or : (last other : Option Write) (before : Option (List ℕ)) → value_or (option_or last
     other) before ≡ value_or last (value_or other before)
 value_or-or None other before = refl
@@ -203,7 +213,8 @@ acknowledged-reads (request ∷ requests) start writes stamp key before has =
     (value_or (last_write writes key) before)
     ∙ ap (value_or (last_write rest key)) (by (acknowledged_here start writes stamp request)
     (accepted start writes stamp request) (kinds request start writes stamp)
-    ∙ sym (value_or-append writes (option_to_list (accepted start writes stamp request)) key before))
+    ∙ sym (value_or-append writes (option_to_list (accepted start writes stamp request)) key
+    before))
     ∙ acknowledged-reads requests start (behind start writes stamp request) (stamp + 1) key before
     has
   where

@@ -1,5 +1,5 @@
 -- Lemmas on groups.
-use Rattle.std.proofs.Common.{◌≡◌, ℕ, ◌+◌, ◌-◌, ◌≤◌, Bool, true, false, cond, List, [], ◌∷◌, ◌++◌}
+use Rattle.std.proofs.Common.{◌≡◌, ◌≤◌, Bool, true, false, cond, List, [], ◌∷◌, ◌++◌}
 use Rattle.std.proofs.Common.{length, filter, fold, refl, ap, sym, ◌∙◌, arith, eqb, append_assoc}
 use Rattle.std.proofs.Common.{append-nil, length-append, map}
 use Rattle.std.proofs.lemmas.List.{map-append, length-map}
@@ -10,7 +10,7 @@ use Rattle.kv_base.specs.declared.request.Request.TheVariants.{Put, Get, Delete,
 use Rattle.kv_base.specs.declared.reply.Reply.{Reply}
 use Rattle.kv_model.specs.Pairs.{Pair, requests_of, pairs_in, replies_in}
 use Rattle.kv_model.specs.Groups.{Groups, IsGroup, with_group, all_groups, end_group, end_full}
-use Rattle.kv_model.specs.Groups.{with_request, next_groups, has_reply, most_requests}
+use Rattle.kv_model.specs.Groups.{with_request, next_groups, has_reply}
 use Rattle.kv_model.proofs.PairwiseLemmas.{All-append}
 
 -- the groups that ended are of the right size, and the current one isn't full
@@ -152,7 +152,8 @@ parts_same [] [] more rest n e = (refl, e)
 parts_same [] (y ∷ ys) more rest n e = absurd (omega (arith, n))
 parts_same (x ∷ xs) [] more rest n e = absurd (omega (arith, n))
 parts_same (x ∷ xs) (y ∷ ys) more rest n e =
-    let behind = parts_same xs ys more rest (omega (arith, n)) (rests x y (xs ++ more) (ys ++ rest) e)
+    let behind = parts_same xs ys more rest (omega (arith, n)) (rests x y (xs ++ more) (ys ++ rest)
+    e)
     in (both x y xs ys (firsts x y (xs ++ more) (ys ++ rest) e) behind.0, behind.1)
 
 -- pairs with the same requests and replies are the same

@@ -1,18 +1,10 @@
 -- Lemmas on the first element that passes a test, in a list that rises.
-use Rattle.std.proofs.Common.{◌≡◌, ℕ, zero, suc, ◌+◌, ◌<◌, ◌≤◌, ◌⊎◌, inl, inr, Bool, true, false}
-use Rattle.std.proofs.Common.{cond, List, [], ◌∷◌, length, Option, None, Some, refl, ap, sym, ◌∙◌}
+use Rattle.std.proofs.Common.{◌≡◌, ℕ, ◌<◌, ◌≤◌, ◌⊎◌, inl, inr, Bool, true, false}
+use Rattle.std.proofs.Common.{cond, List, [], ◌∷◌, None, Some, refl, ap, sym, ◌∙◌}
 use Rattle.std.proofs.Common.{subst, arith, is_some, true≢false, Contains}
 use Rattle.std.specs.List.{AllByRecursion, find}
 use Rattle.kv_model.specs.Pairwise.{Pairwise}
-
--- an element is the first one or in the rest
-Contains-cons : (first : ℕ) (rest : List ℕ) (x : ℕ) → Contains (first ∷ rest) x
-    → (first ≡ x) ⊎ Contains rest x
-Contains-cons first rest x (zero, inside, is) = inl is
-Contains-cons first rest x (suc k, inside, is) = inr (k, omega (arith, inside), is)
-
-Contains-behind : (first : ℕ) (rest : List ℕ) (x : ℕ) → Contains rest x → Contains (first ∷ rest) x
-Contains-behind first rest x has = (suc has.0, omega (arith, has.1), has.2)
+use Rattle.kv_model.proofs.ContainsLemmas.{Contains-cons, Contains-behind}
 
 above-first : (first : ℕ) (rest : List ℕ) (x : ℕ) → AllByRecursion (λ next. first < next) rest
     → Contains rest x → first < x
@@ -34,7 +26,8 @@ no-some a e = absurd (true≢false (sym (ap is_some e)))
 pub find-holds : (test : ℕ → Bool) (xs : List ℕ) (x : ℕ) → find test xs ≡ Some x
     → Contains xs x × (test x ≡ true)
 find-holds test [] x is = absurd (no-some x is)
-find-holds test (first ∷ rest) x is = by (test first) refl is (λ later. find-holds test rest x later)
+find-holds test (first ∷ rest) x is = by (test first) refl is (λ later. find-holds test rest x
+    later)
   where
     by : (passes : Bool) → test first ≡ passes → cond passes (Some first) (find test rest) ≡ Some x
         → (find test rest ≡ Some x → Contains rest x × (test x ≡ true))

@@ -10,3 +10,9 @@ pub mod AnswersLemmas
 pub mod AgreementLemmas
 pub mod WholeLemmas
 pub mod ToldLemmas
+pub mod ContainsLemmas
+pub mod KeyLemmas
+pub mod LookupLemmas
+pub mod OracleLemmas
+pub mod RecoveryLemmas
+pub mod ItemLemmas

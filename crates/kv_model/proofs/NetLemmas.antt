@@ -1,22 +1,24 @@
 -- Lemmas on what a batch accepts, and on the last write of each key.
-use Rattle.std.proofs.Common.{◌≡◌, ◌≢◌, ℕ, ◌+◌, ◌≤◌, ◌<◌, Bool, true, false, cond, List, [], ◌∷◌}
-use Rattle.std.proofs.Common.{◌++◌, Option, None, Some, refl, ap, sym, ◌∙◌, subst, arith, ◌&&◌, ◌||◌}
-use Rattle.std.proofs.Common.{append_assoc, append-nil, option_and_then, option_to_list, filter, length}
-use Rattle.std.proofs.Common.{is_some, Decides, true≢false}
+use Rattle.std.proofs.Common.{◌≡◌, ◌≢◌, ℕ, ◌+◌, ◌≤◌, Bool, true, false, cond, List, [], ◌∷◌}
+use Rattle.std.proofs.Common.{Option, None, Some, refl, ap, sym, ◌∙◌, arith}
+use Rattle.std.proofs.Common.{◌||◌}
+use Rattle.std.proofs.Common.{option_to_list, filter}
+use Rattle.std.proofs.Common.{length}
+use Rattle.std.proofs.Common.{is_some, true≢false}
 use Rattle.std.specs.List.{AllByRecursion}
 use Rattle.std.specs.Option.{option_or}
 use Rattle.std.specs.Str.{bytes_eq}
-use Rattle.std.proofs.lemmas.Bool.{or_parts}
 use Rattle.std.proofs.lemmas.Slice.Eq.{bytes_eq-Decides}
 use Rattle.kv_base.specs.declared.request.Request.{Request}
 use Rattle.kv_base.specs.declared.request.Request.TheVariants.{Put, Get, Delete, Flush}
 use Rattle.kv_model.specs.Pairwise.{Pairwise}
 use Rattle.kv_model.specs.History.{Write}
 use Rattle.kv_model.specs.Pairs.{written}
-use Rattle.kv_model.specs.Batch.{Start, last_write, last_writes, value_or, full_class, accepted, behind}
+use Rattle.kv_model.specs.Batch.{Start, last_write, last_writes, value_or, full_class, accepted}
+use Rattle.kv_model.specs.Batch.{behind}
 use Rattle.kv_model.specs.Batch.{accepted_writes, changes_something, net}
 use Rattle.kv_model.specs.BatchLaws.{RiseBetween}
-use Rattle.kv_model.proofs.ReadingLemmas.{RiseBetween-lower, RiseBetween-le, RiseBetween-append}
+use Rattle.kv_model.proofs.ReadingLemmas.{RiseBetween-lower, RiseBetween-append}
 
 pub RiseBetween-higher : (low high more : ℕ) (writes : List Write) → high ≤ more
     → RiseBetween low high writes → RiseBetween low more writes
@@ -108,7 +110,8 @@ HasNone-from (write ∷ writes) key none = (
     first : (same : Bool) → bytes_eq write.key key ≡ same → is_some (cond same (Some write) None)
         ≡ false → key ≢ write.key
     first true e hit = absurd (true≢false hit)
-    first false e hit = λ equal. true≢false (sym ((bytes_eq-Decides write.key key).1 (sym equal)) ∙ e)
+    first false e hit = λ equal. true≢false (sym ((bytes_eq-Decides write.key key).1 (sym equal)) ∙
+        e)
 
 pub last_write-none : (writes : List Write) (key : List ℕ) → HasNone key writes
     → last_write writes key ≡ None
@@ -167,7 +170,8 @@ DifferentKeys-filter test [] differ = tt
 DifferentKeys-filter test (write ∷ writes) differ = by (test write)
     (DifferentKeys-filter test writes differ.1)
   where
-    by : (b : Bool) → DifferentKeys (filter test writes) → DifferentKeys (cond b (write ∷ filter test writes) (filter test writes))
+    by : (b : Bool) → DifferentKeys (filter test writes) → DifferentKeys (cond b (write ∷ filter
+        test writes) (filter test writes))
     by true rest = (All-filter (λ other. write.key ≢ other.key) test writes differ.0, rest)
     by false rest = rest
 
@@ -233,13 +237,15 @@ net-reads (write ∷ writes) start key before has = by (is_some (last_write writ
 
     by : (b : Bool) → is_some (last_write writes write.key) ≡ b
         → value_or (last_write (net start writes) key) before
-        ≡ value_or (last_write writes key) before → value_or (last_write (filter (changes_something start) (cond b (last_writes writes)
+        ≡ value_or (last_write writes key) before → value_or (last_write (filter (changes_something
+        start) (cond b (last_writes writes)
         (write ∷ last_writes writes))) key) before ≡ value_or (option_or (last_write writes key)
         (cond (bytes_eq write.key key) (Some write) None)) before
     by true e rest = rest
         ∙ sym (ap (λ o. value_or o before) (or_kept (last_write writes key) (bytes_eq write.key key)
         write (λ same. ap (λ k. is_some (last_write writes k)) (sym (same_key same)) ∙ e)))
-    by false e rest = ap (λ o. value_or o before) (last_write-cond (changes_something start write) write
+    by false e rest = ap (λ o. value_or o before) (last_write-cond (changes_something start write)
+        write
         (net start writes) key)
         ∙ net_step (changes_something start write) (bytes_eq write.key key) write
         (last_write (net start writes) key) (last_write writes key) before

@@ -1,5 +1,5 @@
 -- Lemmas on the order of a session's stamps.
-use Rattle.std.proofs.Common.{ℕ, ◌<◌, List, [], ◌∷◌, ◌++◌, Option, None, Some, MatchOption}
+use Rattle.std.proofs.Common.{ℕ, ◌<◌, List, [], ◌∷◌, Option, None, Some, MatchOption}
 use Rattle.std.specs.List.{AllByRecursion, cons_option}
 use Rattle.kv_model.specs.Pairwise.{Pairwise}
 use Rattle.kv_model.specs.Pairs.{Pair, stamp_of, stamps, pairs_in}

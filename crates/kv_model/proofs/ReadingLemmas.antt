@@ -1,12 +1,12 @@
 -- Lemmas on reading a history that goes on with writes whose stamps rise.
 use Rattle.std.proofs.Common.{◌≡◌, ℕ, ◌+◌, ◌≤◌, ◌<◌, Bool, true, false, cond, List, [], ◌∷◌, ◌++◌}
-use Rattle.std.proofs.Common.{Option, None, Some, refl, ap, sym, ◌∙◌, subst, arith, ◌&&◌, nat_le, leb}
-use Rattle.std.proofs.Common.{append_assoc, append-nil, option_and_then, option_to_list, le-leb}
+use Rattle.std.proofs.Common.{Option, None, Some, refl, ap, sym, ◌∙◌, arith, ◌&&◌, nat_le}
+use Rattle.std.proofs.Common.{append_assoc, append-nil, option_and_then, le-leb}
 use Rattle.std.specs.List.{AllByRecursion}
 use Rattle.std.specs.Option.{option_or}
 use Rattle.std.specs.Str.{bytes_eq}
 use Rattle.std.proofs.lemmas.Bool.{lt-leb}
-use Rattle.kv_model.specs.History.{Write, later, later_of, latest, value_at}
+use Rattle.kv_model.specs.History.{Write, later_of, latest, value_at}
 use Rattle.kv_model.specs.Batch.{last_write, value_or}
 use Rattle.kv_model.specs.BatchLaws.{RiseBetween}
 use Rattle.kv_model.specs.Oracle.{preferred}
@@ -133,14 +133,16 @@ preferred-above write (Some best) below = ap (λ b. cond b best write)
 
 -- one step: a write above all earlier ones is read where it is the key's
 push_read : (same : Bool) (write : Write) (stamp : ℕ) (rest : Option Write) → write.stamp ≤ stamp
-    → IsBelow write rest → cond (same && nat_le write.stamp stamp) (Some (preferred rest write)) rest
+    → IsBelow write rest → cond (same && nat_le write.stamp stamp) (Some (preferred rest write))
+    rest
     ≡ option_or (cond same (Some write) None) rest
 push_read true write stamp rest le below =
     ap (λ b. cond b (Some (preferred rest write)) rest) (le-leb write.stamp stamp le)
     ∙ ap Some (preferred-above write rest below)
 push_read false write stamp rest le below = refl
 
-pub option_or-assoc : (a b c : Option Write) → option_or (option_or a b) c ≡ option_or a (option_or b c)
+pub option_or-assoc : (a b c : Option Write) → option_or (option_or a b) c ≡ option_or a (option_or
+    b c)
 option_or-assoc None b c = refl
 option_or-assoc (Some x) b c = refl
 
@@ -160,7 +162,10 @@ latest-rises (write ∷ writes) history low high stamp key below rise le =
     ap (λ all. latest all stamp key) (sym (append_assoc history (write ∷ []) writes))
     ∙ latest-rises writes (history ++ write ∷ []) (write.stamp + 1) high stamp key all rise.1 le
     ∙ ap (option_or (last_write writes key)) (latest-push history write stamp key
-    ∙ push_read (bytes_eq write.key key) write stamp (latest history stamp key) (omega (arith, rest))
+    ∙ push_read (bytes_eq write.key key) write stamp (latest history stamp key) (omega (
+      arith,
+      rest,
+    ))
     (latest-IsBelow history write stamp key (AllBelow-weaken low write.stamp history rise.0 below)))
     ∙ sym (option_or-assoc (last_write writes key) (cond (bytes_eq write.key key) (Some write) None)
     (latest history stamp key))
@@ -176,5 +181,6 @@ pub value_at-rises : (writes history : List Write) (low high stamp : ℕ) (key :
     → value_at (history ++ writes) stamp key ≡ value_or (last_write writes key)
     (value_at history stamp key)
 value_at-rises writes history low high stamp key below rise le =
-    ap (option_and_then (λ write. write.value)) (latest-rises writes history low high stamp key below
+    ap (option_and_then (λ write. write.value)) (latest-rises writes history low high stamp key
+    below
     rise le) ∙ value-of-or (last_write writes key) (latest history stamp key)

@@ -1,5 +1,6 @@
 -- Replies of which the same is told agree with the same map.
-use Rattle.std.proofs.Common.{◌≡◌, ◌≢◌, ℕ, ◌<◌, ◌^◌, Bool, true, false, cond, List, [], ◌∷◌, ◌++◌, map}
+use Rattle.std.proofs.Common.{◌≡◌, ◌≢◌, ℕ, ◌<◌, ◌^◌, Bool, true, false, cond, List, [], ◌∷◌, ◌++◌}
+use Rattle.std.proofs.Common.{map}
 use Rattle.std.proofs.Common.{Option, None, Some, refl, ap, sym, ◌∙◌, subst, MatchOption, IsTrue}
 use Rattle.std.proofs.Common.{true≢false, filter_map}
 use Rattle.std.specs.List.{AllByRecursion, cons_option}
@@ -12,7 +13,8 @@ use Rattle.kv_model.specs.Pairwise.{Pairwise}
 use Rattle.kv_model.specs.History.{Write, value_at}
 use Rattle.kv_model.specs.Layout.{Layout}
 use Rattle.kv_model.specs.Pairs.{Pair, acknowledged, acknowledged_by, stamp_of, stamps, writes}
-use Rattle.kv_model.specs.Agreement.{AgreesWithMap, IsAnswer, IsMapAnswer, IsRead, refusal_of, told_of}
+use Rattle.kv_model.specs.Agreement.{AgreesWithMap, IsAnswer, IsMapAnswer, IsRead, refusal_of}
+use Rattle.kv_model.specs.Agreement.{told_of}
 use Rattle.kv_model.specs.Batch.{IsTask}
 use Rattle.kv_model.specs.BatchLaws.{pairs_of}
 
@@ -131,7 +133,8 @@ same-answers (request ∷ requests) (reply ∷ replies) (answer ∷ answers) tol
           (first (told_of told reply) (told_of told answer) (map (told_of told) replies)
           (map (told_of told) answers) same) all.0,
       same-answers requests replies answers told layout history (others (told_of told reply)
-          (told_of told answer) (map (told_of told) replies) (map (told_of told) answers) same) good.1
+          (told_of told answer) (map (told_of told) replies) (map (told_of told) answers) same)
+          good.1
           all.1,
     )
 

@@ -1,7 +1,8 @@
 -- A run with the answers to one more batch behind it agrees with one plain map.
-use Rattle.std.proofs.Common.{◌≡◌, ◌≢◌, ℕ, suc, ◌+◌, ◌-◌, ◌^◌, ◌≤◌, ◌<◌, Bool, true, false, List, []}
+use Rattle.std.proofs.Common.{◌≡◌, ◌≢◌, ℕ, ◌+◌, ◌-◌, ◌^◌, ◌≤◌, ◌<◌, Bool, List}
+use Rattle.std.proofs.Common.{[]}
 use Rattle.std.proofs.Common.{◌∷◌, ◌++◌, Option, None, Some, refl, ap, sym, ◌∙◌, subst, arith}
-use Rattle.std.proofs.Common.{append_assoc, append-nil, option_and_then, option_to_list, length}
+use Rattle.std.proofs.Common.{append_assoc, option_to_list, length}
 use Rattle.std.proofs.Common.{MatchOption, is_some, IsTrue}
 use Rattle.std.specs.List.{AllByRecursion, cons_option}
 use Rattle.std.proofs.lemmas.List.Elements.{filter_map-append}
@@ -10,20 +11,21 @@ use Rattle.kv_base.specs.declared.request.Request.TheVariants.{Put, Get, Delete,
 use Rattle.kv_base.specs.declared.reply.Reply.{Reply}
 use Rattle.kv_base.specs.declared.reply.Reply.TheVariants.{Stored, Found, Missing, Removed, Absent}
 use Rattle.kv_model.specs.Pairwise.{Pairwise}
-use Rattle.kv_model.specs.History.{Write, value_at}
+use Rattle.kv_model.specs.History.{Write}
 use Rattle.kv_model.specs.Layout.{Layout}
 use Rattle.kv_model.specs.Pairs.{Pair, acknowledged, acknowledged_by, stamp_of, stamps, writes}
 use Rattle.kv_model.specs.Agreement.{AgreesWithMap, IsAnswer, IsMapAnswer, IsRead, refusal_of}
-use Rattle.kv_model.specs.Batch.{IsTask, Start, behind, answers, reply_of, value_after}
-use Rattle.kv_model.specs.Items.{SameValue, BeginsAt}
-use Rattle.kv_model.specs.BatchLaws.{RiseBetween, pairs_of}
+use Rattle.kv_model.specs.Batch.{IsTask, Start, behind, answers, reply_of}
+use Rattle.kv_model.specs.Items.{BeginsAt}
+use Rattle.kv_model.specs.BatchLaws.{pairs_of}
 use Rattle.kv_model.proofs.ReadingLemmas.{AllBelow, AllFrom, RiseBetween-from, AllBelow-append}
 use Rattle.kv_model.proofs.ReadingLemmas.{AllBelow-weaken}
-use Rattle.kv_model.proofs.AnswersLemmas.{HasStamp, HasStamp-reply, acknowledged_in, cons-is}
+use Rattle.kv_model.proofs.AnswersLemmas.{HasStamp, HasStamp-reply, cons-is}
 use Rattle.kv_model.proofs.AnswersLemmas.{RiseBetween-acknowledged_in}
 use Rattle.kv_model.proofs.AgreementLemmas.{value-append-above, AllFrom-weaken, answers-agree}
 
-All-both : {X : Type 0} (P : X → Type 0) (xs ys : List X) → AllByRecursion P xs → AllByRecursion P ys
+All-both : {X : Type 0} (P : X → Type 0) (xs ys : List X) → AllByRecursion P xs → AllByRecursion P
+    ys
     → AllByRecursion P (xs ++ ys)
 All-both P [] ys first second = second
 All-both P (x ∷ xs) ys first second = (first.0, All-both P xs ys first.1 second)
@@ -46,7 +48,8 @@ IsBelowStamp base pair = MatchOption (stamp_of pair.reply) (Unit {0}) (λ stamp.
 stamps-below : (pairs : List Pair) (base : ℕ) → AllByRecursion (IsBelowStamp base) pairs
     → AllByRecursion (λ stamp. stamp < base) (stamps pairs)
 stamps-below [] base all = tt
-stamps-below (pair ∷ pairs) base all = by (stamp_of pair.reply) all.0 (stamps-below pairs base all.1)
+stamps-below (pair ∷ pairs) base all = by (stamp_of pair.reply) all.0 (stamps-below pairs base
+    all.1)
   where
     by : (stamp : Option ℕ) → MatchOption stamp (Unit {0}) (λ s. s < base)
         → AllByRecursion (λ s. s < base) (stamps pairs)
@@ -176,7 +179,8 @@ agrees-with-more told layout before floor pairs base start requests agrees same 
     stamps-within requests start [] base in
     let split : stamps (pairs ++ new) ≡ stamps pairs ++ stamps new =
     filter_map-append (λ pair. stamp_of pair.reply) pairs new in
-    let old : AllByRecursion (λ s. s < base) (stamps pairs) = stamps-below pairs base earlier_below in
+    let old : AllByRecursion (λ s. s < base) (stamps pairs) = stamps-below pairs base earlier_below
+    in
     let more : before ++ writes (pairs ++ new) ≡ (before ++ writes pairs) ++ writes new =
     ap (λ all. before ++ all) (filter_map-append acknowledged pairs new)
     ∙ sym (append_assoc before (writes pairs) (writes new)) in

@@ -1,17 +1,17 @@
 -- Worked batches.
-use Rattle.std.specs.Prelude.{◌≡◌, ◌++◌, ℕ, ◌==◌, List, [], ◌∷◌, Option, None, Some, if◌then◌else◌}
+use Rattle.std.specs.Prelude.{◌≡◌, ℕ, ◌==◌, List, [], ◌∷◌, None, Some, if◌then◌else◌}
 use Rattle.std.specs.Prelude.{Bool, ◌||◌}
 use Rattle.std.specs.List.{range_with_len}
 use Rattle.std.specs.Str.{bytes_eq}
 use Rattle.kv_base.specs.declared.request.Request.{Request}
-use Rattle.kv_base.specs.declared.request.Request.TheVariants.{Put, Get, Delete}
+use Rattle.kv_base.specs.declared.request.Request.TheVariants.{Put, Delete}
 use Rattle.kv_base.specs.declared.reply.Reply.{Reply}
 use Rattle.kv_base.specs.declared.reply.Reply.TheVariants.{Stored, Found, Missing, Removed, Absent}
 use Rattle.kv_base.specs.declared.reply.Reply.TheVariants.{Full}
 use Rattle.kv_model.specs.History.{Write}
 use Rattle.kv_model.specs.Layout.{all_classes}
 use Rattle.kv_model.specs.Batch.{Start, answers, accepted_writes, net}
-use Rattle.kv_model.specs.FreeSlots.{Free, AreFree, new_slots, taken, given, link_at}
+use Rattle.kv_model.specs.FreeSlots.{Free, new_slots, taken, given, link_at}
 use Rattle.kv_model.specs.Examples.{key_a, value_1, put_a, get_a}
 
 -- the key b

@@ -1,6 +1,6 @@
 -- What the answers to a batch and its net changes have, whatever the batch is.
 use Rattle.std.specs.Prelude.{◌≡◌, ◌≢◌, ℕ, ◌+◌, ◌≤◌, ◌<◌, ◌^◌, List, [], ◌∷◌, ◌++◌, length, Bool}
-use Rattle.std.specs.Prelude.{None, MatchOption, ⊤, Option, ◌⊎◌, map}
+use Rattle.std.specs.Prelude.{MatchOption, ⊤, Option, ◌⊎◌, map}
 use Rattle.std.specs.List.{AllByRecursion}
 use Rattle.kv_base.specs.declared.request.Request.{Request}
 use Rattle.kv_base.specs.declared.reply.Reply.{Reply}
@@ -73,14 +73,14 @@ AnswersAgree = (told : Bool) (layout : Layout) (before : List Write) (floor : �
     → AgreesWithMap told layout before floor (pairs ++ pairs_of requests
     (answers start [] base requests))
 
--- a store that has the net changes has what the history with the acknowledged writes has, so that
--- the next batch can begin there
-pub record FollowsHistory (told : Bool) (history : List Write) (stamp : ℕ) (store : Start) : Type 0
-  where
-    pub value : (key : List ℕ) → SameValue told (store.value key) (value_at history stamp key)
-    pub class : (key : List ℕ) → store.class key ≡ class_with store.layout key (value_at history stamp
-        key)
+-- the store has what the history has at the stamp, so that the next batch can begin there
+pub record FollowsHistory (told : Bool) (history : List Write) (stamp : ℕ)
+    (store : Start) : Type 0 where
+  pub value : (key : List ℕ) → SameValue told (store.value key) (value_at history stamp key)
+  pub class : (key : List ℕ) → store.class key
+      ≡ class_with store.layout key (value_at history stamp key)
 
+-- a store that has the net changes follows the history with the acknowledged writes
 abbrev pub StoreFollowsHistory : Type 0
 StoreFollowsHistory = (told : Bool) (history : List Write) (base : ℕ) (start after : Start)
     (requests : List Request) (stamp : ℕ) → BeginsAt told history base start
@@ -96,12 +96,14 @@ OldOrNewIsPrefix = (told : Bool) (history : List Write) (base : ℕ) (start : St
     (requests : List Request) (key : List ℕ) (value : Option (List ℕ))
     → BeginsAt told history base start → 1 ≤ base
     → AllByRecursion (λ write. write.stamp < base) history
-    → (value ≡ start.value key) ⊎ (value ≡ value_after start (net start (accepted_writes start [] base
-    requests)) key) → (stamp : ℕ) × (AllByRecursion (λ write. write.stamp ≤ stamp) history
+    → (value ≡ start.value key) ⊎ (value ≡ value_after start
+    (net start (accepted_writes start [] base requests)) key)
+    → (stamp : ℕ) × (AllByRecursion (λ write. write.stamp ≤ stamp) history
     × SameValue told value (value_at (history ++ net start (accepted_writes start [] base requests))
     stamp key))
 
--- the same holds of replies of which the same is told as of the answers
+-- replies of which the same is told as of the answers keep this too: with them behind it a run
+-- agrees with one plain map
 abbrev pub ToldAnswersAgree : Type 0
 ToldAnswersAgree = (told : Bool) (layout : Layout) (before : List Write) (floor : ℕ)
     (pairs : List Pair) (base : ℕ) (start : Start) (requests : List Request) (replies : List Reply)

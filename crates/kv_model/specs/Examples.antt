@@ -1,5 +1,5 @@
 -- Worked examples: the bytes are written by hand from the documents of the formats.
-use Rattle.std.specs.Prelude.{◌≡◌, ℕ, List, [], ◌∷◌, ◌++◌, Option, None, Some, replicate, true}
+use Rattle.std.specs.Prelude.{◌≡◌, ℕ, List, [], ◌∷◌, ◌++◌, replicate, true}
 use Rattle.kv_base.specs.declared.request.Request.{Request}
 use Rattle.kv_base.specs.declared.request.Request.TheVariants.{Put, Get, Flush}
 use Rattle.kv_base.specs.declared.reply.Reply.{Reply}
@@ -101,7 +101,8 @@ GoesOn = HasTranscriptSoFar (put_a_bytes ++ flush_bytes ++ get_a_bytes ++ flush_
 -- 64 requests are a group, and what comes behind them begins another; a flush ends a group and is
 -- in none
 pub record GroupsEnd : Type 0 where
-  pub full : groups_of (replicate 64 get_a) ≡ record { ended = replicate 64 get_a ∷ []; current = [] }
+  pub full : groups_of (replicate 64 get_a)
+      ≡ record { ended = replicate 64 get_a ∷ []; current = [] }
   pub one_more : groups_of (replicate 65 get_a)
       ≡ record { ended = replicate 64 get_a ∷ []; current = get_a ∷ [] }
   pub flushed : groups_of (put_a ∷ Flush ∷ Flush ∷ get_a ∷ [])

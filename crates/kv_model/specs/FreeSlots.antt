@@ -1,6 +1,8 @@
 -- Which slots of a class are free, which ones a batch takes, and which are free behind it.
-use Rattle.std.specs.Prelude.{◌≡◌, ◌↔◌, ℕ, ◌+◌, ◌-◌, ◌<◌, ◌&&◌, List, [], ◌∷◌, ◌++◌, Bool, not, length}
-use Rattle.std.specs.Prelude.{take, map, reverse, filter, count_by, nat_lt, Contains, Option, Some, None}
+use Rattle.std.specs.Prelude.{◌↔◌, ℕ, ◌+◌, ◌-◌, ◌<◌, ◌&&◌, List, ◌++◌, Bool, not}
+use Rattle.std.specs.Prelude.{length}
+use Rattle.std.specs.Prelude.{take, map, reverse, filter, count_by, nat_lt, Contains, Option}
+use Rattle.std.specs.Prelude.{None}
 use Rattle.std.specs.Prelude.{if◌then◌else◌}
 use Rattle.std.specs.List.{range_with_len, slice_get}
 use Rattle.kv_model.specs.Pairwise.{Pairwise}

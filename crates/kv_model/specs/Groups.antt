@@ -1,5 +1,6 @@
 -- The groups that a session's requests make: each has 64 requests at most, and a Flush ends one.
-use Rattle.std.specs.Prelude.{◌≡◌, ℕ, ◌-◌, ◌==◌, ◌≤◌, List, [], ◌∷◌, ◌++◌, length, filter, fold, Bool}
+use Rattle.std.specs.Prelude.{◌≡◌, ℕ, ◌-◌, ◌==◌, ◌≤◌, List, [], ◌∷◌, ◌++◌, length, filter, fold}
+use Rattle.std.specs.Prelude.{Bool}
 use Rattle.std.specs.Prelude.{true, false, map, if◌then◌else◌}
 use Rattle.std.specs.List.{AllByRecursion, flat_map}
 use Rattle.kv_base.specs.declared.request.Request.{Request}
@@ -77,8 +78,8 @@ pub record GroupsHoldRequests : Type 0 where
   pub room : (requests : List Request)
       → length (groups_of requests).current ≤ most_requests - 1
 
--- requests without a reply change no group where reading ends, and groups of pairs are determined by
--- their requests and the list of all replies
+-- requests without a reply change no group where reading ends, and groups of pairs are determined
+-- by their requests and the list of all replies
 pub record OneGrouping : Type 0 where
   pub same : (requests more : List Request) → filter has_reply more ≡ []
       → all_groups (groups_of (requests ++ more)) ≡ all_groups (groups_of requests)

@@ -1,14 +1,18 @@
 -- The items that a history has at a stamp, and what a batch finds there.
-use Rattle.std.specs.Prelude.{◌≡◌, ℕ, ◌-◌, ◌==◌, List, [], ◌∷◌, length, filter, count_by, Contains}
-use Rattle.std.specs.Prelude.{Option, None, Some, Bool, IsTrue, ◌↔◌, ⊤, option_and_then}
+use Rattle.std.specs.Prelude.{◌≡◌, ℕ, ◌-◌, ◌==◌, List, [], length, filter, count_by, Contains}
+use Rattle.std.specs.Prelude.{Option, None, Some, Bool, true, IsTrue, ◌↔◌, ◌&&◌, ◌||◌, ◌++◌, ⊤}
+use Rattle.std.specs.Prelude.{option_and_then}
 use Rattle.std.specs.Ordering.{nat_cmp, is_le, is_lt}
 use Rattle.std.specs.Cmp.Lexicographic.{slice_cmp}
+use Rattle.kv_base.specs.declared.request.Request.{Request}
+use Rattle.kv_base.specs.declared.reply.Reply.{Reply}
 use Rattle.kv_base.specs.Partition.{owner_of}
 use Rattle.kv_model.specs.Pairwise.{Pairwise}
 use Rattle.kv_model.specs.History.{Write, value_at}
-use Rattle.kv_model.specs.Layout.{Layout, class_of}
+use Rattle.kv_model.specs.Layout.{Layout, class_of, all_classes}
 use Rattle.kv_model.specs.Slots.{is_class}
-use Rattle.kv_model.specs.Batch.{Start, last_write, class_written, value_after}
+use Rattle.kv_model.specs.Batch.{Start, last_write, class_written, value_after, answers}
+use Rattle.kv_model.specs.Batch.{accepted_writes, net}
 
 -- a key and its value
 abbrev pub KeyValue : Type 0
@@ -18,21 +22,16 @@ KeyValue = List ℕ × List ℕ
 abbrev pub IsLess : List ℕ → List ℕ → Type 0
 IsLess key other = IsTrue (is_lt (slice_cmp nat_cmp key other))
 
--- the key is below the end of a range; an empty end is none
-abbrev pub IsBelowEnd : List ℕ → List ℕ → Type 0
-IsBelowEnd [] key = ⊤
-IsBelowEnd (first ∷ rest) key = IsLess key (first ∷ rest)
-
--- the key lies at or after `low` and below `high`
-pub record IsInRange (low high key : List ℕ) : Type 0 where
-  pub from : IsTrue (is_le (slice_cmp nat_cmp low key))
-  pub below : IsBelowEnd high key
+-- the key is at or after `low` and below `high`; an empty `high` is no end
+abbrev pub is_in_range : List ℕ → List ℕ → List ℕ → Bool
+is_in_range low high key = is_le (slice_cmp nat_cmp low key)
+    && (length high == 0 || is_lt (slice_cmp nat_cmp key high))
 
 -- by rising key, the items that the history has in the range at the stamp
 pub record AreItems (history : List Write) (stamp : ℕ) (low high : List ℕ)
     (items : List KeyValue) : Type 0 where
   pub rising : Pairwise (λ item next. IsLess item.0 next.0) items
-  pub each : (item : KeyValue) → Contains items item ↔ (IsInRange low high item.0
+  pub each : (item : KeyValue) → Contains items item ↔ (IsTrue (is_in_range low high item.0)
       × (value_at history stamp item.0 ≡ Some item.1))
 
 -- the items whose keys this worker of so many owns
@@ -85,3 +84,25 @@ pub record HasChanges (start after : Start) (changes : List Write) : Type 0 wher
   pub limit : after.limit ≡ start.limit
   pub value : (key : List ℕ) → after.value key ≡ value_after start changes key
   pub class : (key : List ℕ) → after.class key ≡ class_after start changes key
+
+-- a batch was answered from its first stamp on, and its net changes came behind the writes
+pub record AnswersBatch (before after : List Write) (base limit : ℕ) (requests : List Request)
+    (replies : List Reply) : Type 0 where
+  pub start : Start
+  pub begins : BeginsAt true before base start
+  pub layout : start.layout ≡ all_classes
+  pub limit_is : start.limit ≡ limit
+  pub replies_are : replies ≡ answers start [] base requests
+  pub taken : after ≡ before ++ net start (accepted_writes start [] base requests)
+
+-- a history has one list of items in a range at a stamp
+abbrev pub ItemsAreOne : Type 0
+ItemsAreOne = (history : List Write) (stamp : ℕ) (low high : List ℕ) (items others : List KeyValue)
+    → AreItems history stamp low high items → AreItems history stamp low high others
+    → items ≡ others
+
+-- a batch has one list of replies, and one list of writes behind it
+abbrev pub OneAnswer : Type 0
+OneAnswer = (before after also : List Write) (base limit : ℕ) (requests : List Request)
+    (replies others : List Reply) → AnswersBatch before after base limit requests replies
+    → AnswersBatch before also base limit requests others → (replies ≡ others) × (after ≡ also)

@@ -17,6 +17,8 @@ pub mod BatchLaws
 pub mod FreeSlots
 pub mod Reading
 pub mod Recovery
+pub mod Lookup
 pub mod Oracle
 pub mod Examples
 pub mod BatchExamples
+pub mod RecoveryExamples

@@ -1,5 +1,5 @@
 -- The order that the stamps of one session keep.
-use Rattle.std.specs.Prelude.{◌≡◌, ℕ, ◌<◌, List, MatchOption, ⊤}
+use Rattle.std.specs.Prelude.{◌≡◌, ◌<◌, List, MatchOption, ⊤}
 use Rattle.std.specs.List.{AllByRecursion}
 use Rattle.kv_model.specs.Pairwise.{Pairwise}
 use Rattle.kv_model.specs.Pairs.{Pair, key_of, stamp_of, stamps, pairs_in}

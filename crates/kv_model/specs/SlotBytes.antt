@@ -24,9 +24,10 @@ item_bytes class stamp key value = padded (slot_size class) (item_header stamp k
 -- a page of a slot of the classes 8 to 11 with this item, the first being 0
 unfoldable pub large_page : ℕ → List ℕ → List ℕ → ℕ → List ℕ
 large_page stamp key value page =
-    if page == 0 then padded page_size (item_header stamp key value ++ take first_page_room (key ++ value))
-    else padded page_size (to_le_bytes w64 stamp ++ take later_page_room (drop (first_page_room + later_page_room * (page - 1))
-    (key ++ value)))
+    if page == 0
+    then padded page_size (item_header stamp key value ++ take first_page_room (key ++ value))
+    else padded page_size (to_le_bytes w64 stamp ++ take later_page_room
+    (drop (first_page_room + later_page_room * (page - 1)) (key ++ value)))
 
 -- all pages of a slot of the classes 8 to 11 with this item
 abbrev pub large_pages : ℕ → ℕ → List ℕ → List ℕ → List (List ℕ)

@@ -1,6 +1,7 @@
 ghost use Rattle.kv_model.specs.Layout.{LayoutsRise, ClassesAreLeast};
 ghost use Rattle.kv_model.specs.Groups.{GroupsHoldRequests, OneGrouping};
 ghost use Rattle.kv_model.specs.Order.{StampsRise};
+ghost use Rattle.kv_model.specs.Items.{ItemsAreOne, OneAnswer};
 ghost use Rattle.kv_model.specs.BatchLaws.{StampsFollowRequests, NetHasOneWritePerKey};
 ghost use Rattle.kv_model.specs.BatchLaws.{NetReadsAsAll, AcknowledgedReadAsAll, AnswersAgree};
 ghost use Rattle.kv_model.specs.BatchLaws.{StoreFollowsHistory, OldOrNewIsPrefix, ToldAnswersAgree};
@@ -28,6 +29,17 @@ pub fn one_grouping()
 /// Through all groups of a session the stamps of each key's requests rise.
 pub fn stamps_rise()
     ensures { StampsRise }
+{}
+
+/// A history has one list of items in a range at a stamp.
+pub fn items_are_one()
+    ensures { ItemsAreOne }
+{}
+
+/// The answers to a batch and its net changes are determined by the writes before it, its first
+/// stamp, the limit and the requests.
+pub fn one_answer()
+    ensures { OneAnswer }
 {}
 
 /// Each request of a batch has one reply, and the replies' stamps are those of the requests.

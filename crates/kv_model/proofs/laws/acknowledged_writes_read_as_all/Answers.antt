@@ -2,7 +2,6 @@
 use Rattle.std.proofs.Common.{◌≡◌, [], ◌+◌, ◌-◌, length, le_refl, arith, sym, ◌∙◌, ap, is_some}
 use Rattle.kv_model.specs.History.{value_at}
 use Rattle.kv_model.specs.Batch.{accepted_writes}
-use Rattle.kv_model.specs.BatchLaws.{RiseBetween}
 use Rattle.kv_model.proofs.ReadingLemmas.{value_at-rises}
 use Rattle.kv_model.proofs.AgreementLemmas.{same-some, value-same}
 use Rattle.kv_model.proofs.NetLemmas.{RiseBetween-accepted_writes}

@@ -1,9 +1,9 @@
 -- the first class that holds the item, where the key may be stored
-use Rattle.std.proofs.Common.{◌≡◌, ◌↔◌, ℕ, ◌+◌, ◌≤◌, Bool, true, cond, Option, None, Some, refl}
-use Rattle.std.proofs.Common.{sym, ap, ◌∙◌, arith, nat_le, le-leb}
+use Rattle.std.proofs.Common.{◌≡◌, ℕ, ◌+◌, Bool, cond, None, Some}
+use Rattle.std.proofs.Common.{sym, ap, ◌∙◌, nat_le, le-leb}
 use Rattle.std.proofs.lemmas.Bool.{leb-true}
 use Rattle.std.specs.List.{find}
-use Rattle.kv_model.specs.Layout.{Layout, class_of, room_of, is_key_length}
+use Rattle.kv_model.specs.Layout.{class_of, room_of}
 use Rattle.kv_model.proofs.LayoutLemmas.{find-holds, find-least, find-is}
 use Rattle.kv_model.proofs.laws.classes_are_least.Goals as goal
 

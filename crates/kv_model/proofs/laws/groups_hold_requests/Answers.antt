@@ -1,5 +1,5 @@
 -- by induction over the requests
-use Rattle.std.proofs.Common.{List, [], arith}
+use Rattle.std.proofs.Common.{List, arith}
 use Rattle.kv_base.specs.declared.request.Request.{Request}
 use Rattle.kv_model.specs.Groups.{groups_of, no_groups}
 use Rattle.kv_model.proofs.GroupLemmas.{AreGroups, fold-groups, fold-flat, with_group-sizes}

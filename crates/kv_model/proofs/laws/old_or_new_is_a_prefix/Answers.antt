@@ -1,6 +1,7 @@
 -- before the batch, or behind it
-use Rattle.std.proofs.Common.{◌≡◌, ℕ, List, [], ◌∷◌, ◌+◌, ◌-◌, ◌≤◌, ◌<◌, length, le_refl, arith, sym, ◌∙◌, ap}
-use Rattle.std.proofs.Common.{subst, inl, inr, ◌++◌, ⊎_elim}
+use Rattle.std.proofs.Common.{ℕ, List, [], ◌∷◌, ◌+◌, ◌-◌, ◌≤◌, length, le_refl, arith}
+use Rattle.std.proofs.Common.{sym, ◌∙◌, ap}
+use Rattle.std.proofs.Common.{subst, ◌++◌, ⊎_elim}
 use Rattle.std.specs.List.{AllByRecursion}
 use Rattle.kv_model.specs.History.{Write, value_at}
 use Rattle.kv_model.specs.Batch.{accepted_writes, last_write, last_writes, value_or, net}
@@ -34,8 +35,10 @@ returns c = λ told history base start requests key value begins one below eithe
       (
         up_to base (base - 1) history (omega arith) below,
         subst (λ o. SameValue told o (value_at (history ++ changes) (base - 1) key)) (sym old)
-            (subst (SameValue told (start.value key)) (sym (value-append-above history changes (base - 1)
-            key (AllFrom-weaken (base - 1 + 1) base changes (omega arith) (RiseBetween-from base (base
+            (subst (SameValue told (start.value key)) (sym (value-append-above history changes
+            (base - 1)
+            key (AllFrom-weaken (base - 1 + 1) base changes (omega arith) (RiseBetween-from base
+            (base
             + length requests) changes rise)))) (begins.value key)),
       ),
     ))
@@ -47,11 +50,14 @@ returns c = λ told history base start requests key value begins one below eithe
         subst (λ o. SameValue told o (value_at (history ++ changes) (base + length requests)
             key)) (sym new)
             (subst (SameValue told (value_or (last_write changes key) (start.value key)))
-            (sym (value_at-rises changes history base (base + length requests) (base + length requests)
+            (sym (value_at-rises changes history base (base + length requests) (base + length
+            requests)
             key below rise (omega arith)
-            ∙ ap (value_or (last_write changes key)) (value-same history base (base + length requests)
+            ∙ ap (value_or (last_write changes key)) (value-same history base (base + length
+            requests)
             (base - 1) key below (omega arith) (omega arith))))
-            (SameValue-or told (last_write changes key) (start.value key) (value_at history (base - 1)
+            (SameValue-or told (last_write changes key) (start.value key) (value_at history (base -
+            1)
             key) (begins.value key))),
       ),
     ))

@@ -1,6 +1,8 @@
 -- both are the last write's value, or what was there
-use Rattle.std.proofs.Common.{◌≡◌, [], ◌+◌, ◌-◌, length, le_refl, arith, sym, ◌∙◌, ap, is_some, refl}
-use Rattle.std.proofs.Common.{subst, ◌++◌, ◌∷◌, List, ℕ, Option, Some, None, Bool, true, false, cond}
+use Rattle.std.proofs.Common.{◌≡◌, [], ◌+◌, ◌-◌, length, arith, sym, ◌∙◌, ap, is_some}
+use Rattle.std.proofs.Common.{refl}
+use Rattle.std.proofs.Common.{subst, ◌++◌, ◌∷◌, List, ℕ, Option, Some, None, Bool, true, false}
+use Rattle.std.proofs.Common.{cond}
 use Rattle.std.specs.Option.{option_or}
 use Rattle.std.specs.Str.{bytes_eq}
 use Rattle.std.proofs.lemmas.Slice.Eq.{bytes_eq-Decides}
@@ -10,7 +12,7 @@ use Rattle.kv_model.specs.Batch.{accepted_writes, last_write, value_or, net}
 use Rattle.kv_model.specs.Items.{SameValue, class_with, class_or}
 use Rattle.kv_model.proofs.ReadingLemmas.{value_at-rises}
 use Rattle.kv_model.proofs.AgreementLemmas.{same-some, value-same, SameValue-or}
-use Rattle.kv_model.proofs.NetLemmas.{RiseBetween-accepted_writes, net-reads}
+use Rattle.kv_model.proofs.NetLemmas.{net-reads}
 use Rattle.kv_model.proofs.AnswersLemmas.{acknowledged-reads, acknowledged_in}
 use Rattle.kv_model.proofs.AnswersLemmas.{RiseBetween-acknowledged_in}
 use Rattle.kv_model.proofs.laws.store_follows_history.Goals as goal
@@ -30,7 +32,8 @@ last-key [] key write is = absurd (none is)
   where
     none : None ≡ Some write → ⊥
     none e = cc
-last-key (first ∷ writes) key write is = by (last_write writes key) refl (bytes_eq first.key key) refl
+last-key (first ∷ writes) key write is = by (last_write writes key) refl (bytes_eq first.key key)
+    refl
     is (last-key writes key write)
   where
     same : (a b : Write) → Some a ≡ Some b → a ≡ b
@@ -52,7 +55,8 @@ returns c = λ told history base start after requests stamp begins below ends is
     let all = accepted_writes start [] base requests in
     let changes = net start all in
     let total = history ++ acknowledged_in start [] base requests in
-    let some : (key : List ℕ) → is_some (value_at history (base - 1) key) ≡ is_some (start.value key) =
+    let some : (key : List ℕ) → is_some (value_at history (base - 1) key) ≡ is_some (start.value
+    key) =
     λ key. same-some told (start.value key) (value_at history (base - 1) key) (begins.value key) in
     let still : (key : List ℕ) → value_at history stamp key ≡ value_at history (base - 1) key =
     λ key. value-same history base stamp (base - 1) key below (omega arith) (omega arith) in
@@ -65,8 +69,10 @@ returns c = λ told history base start after requests stamp begins below ends is
     record {
       value = λ key. subst (λ o. SameValue told o (value_at total stamp key))
           (sym (is_after.value key ∙ net-reads all start key (start.value key) refl))
-          (subst (SameValue told (value_or (last_write all key) (start.value key))) (sym (right key))
-          (SameValue-or told (last_write all key) (start.value key) (value_at history (base - 1) key)
+          (subst (SameValue told (value_or (last_write all key) (start.value key))) (sym (right
+          key))
+          (SameValue-or told (last_write all key) (start.value key) (value_at history (base - 1)
+          key)
           (begins.value key)));
       class = λ key. is_after.class key
           ∙ ap (class_or start.layout (last_write changes key)) (begins.class key)

@@ -1,8 +1,7 @@
 -- Each transcript in its parts: what was handled, what went out and what is left.
-use Rattle.std.proofs.Common.{◌≡◌, ◌≤◌, ◌^◌, ◌<◌, ℕ, List, [], ◌∷◌, Option, Some, refl, arith, inl}
-use Rattle.std.proofs.Common.{inr, rules}
-use Rattle.kv_base.specs.declared.request.Request.TheVariants.{Put, Get, Flush}
-use Rattle.kv_base.specs.declared.reply.Reply.{Reply}
+use Rattle.std.proofs.Common.{[], ◌∷◌, refl, arith, inl}
+use Rattle.std.proofs.Common.{inr}
+use Rattle.kv_base.specs.declared.request.Request.TheVariants.{Put, Flush}
 use Rattle.kv_base.specs.declared.reply.Reply.TheVariants.{Stored, Found, Missing, BadKey}
 use Rattle.kv_base.specs.declared.reply.Reply.TheVariants.{Malformed}
 use Rattle.kv_base.specs.declared.cause.Cause.TheVariants.{End}

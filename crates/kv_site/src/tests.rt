@@ -207,25 +207,6 @@ fn a_disk_of_files_keeps_its_pages(rt: HostRuntime) -> Result<(), Fail> {
 }
 
 #[test]
-fn a_part_of_a_page_is_read_with_zeros(rt: HostRuntime) -> Result<(), Fail> {
-    let folder = "kv_site_test_part";
-    let _ = fs::remove_dir_all(&rt, folder);
-    fs::create_dir_all(&rt, "kv_site_test_part/0")?;
-    fs::write(&rt, "kv_site_test_part/0/8", [6; 5000].as_slice())?;
-    let mut site = FileSite::new(rt);
-    let mut disk = take_disk(&mut site, folder, 0)?;
-    // 5,000 bytes are a page of 4,096 and 904 bytes.
-    assert_eq!(rt; disk.length(8), Ok(2));
-    assert_eq!(rt; page_of(&mut disk, 8, 0)?, [6; 4096]);
-    let mut expected = [0; 4096];
-    expected[..904].fill(6);
-    assert_eq!(rt; page_of(&mut disk, 8, 1)?, expected);
-    drop(disk);
-    fs::remove_dir_all(&rt, folder)?;
-    Ok(())
-}
-
-#[test]
 fn what_cannot_be_opened_is_refused(rt: HostRuntime) -> Result<(), Fail> {
     let folder = "kv_site_test_refused";
     let _ = fs::remove_dir_all(&rt, folder);

@@ -1,5 +1,5 @@
 -- The limits of one worker's store.
-use Rattle.std.specs.Prelude.{◌^◌, ◌≤◌}
+use Rattle.std.specs.Prelude.{ℕ, ◌^◌, ◌≤◌}
 use Rattle.kv_base.specs.declared.limits.Limits.{Limits}
 
 -- the most slots of a class

@@ -48,7 +48,8 @@ pub record SameCounts (old new : HeldThings) : Type 0 where
   pub faults : new.faults ≡ old.faults
 
 -- these ends are held at this number, and nothing else changes
-pub record PutsSession (old new : Held MemorySource MemorySink RecordedDisk) (n : ℕ) (ends : MemorySource × MemorySink) : Type 0 where
+pub record PutsSession (old new : Held MemorySource MemorySink RecordedDisk) (n : ℕ)
+    (ends : MemorySource × MemorySink) : Type 0 where
   pub put : new.sessions n ≡ Some ends
   pub others : (m : ℕ) → m ≢ n → new.sessions m ≡ old.sessions m
   pub lent : (m : ℕ) → new.lent m ≡ old.lent m

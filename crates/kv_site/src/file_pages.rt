@@ -12,8 +12,8 @@ use std::marker::Model;
 use std::os::unix::fs::FileExt;
 
 /// The pages of a file of std: one call of the system for a page, more only where that moved a part
-/// of it. It counts each error as a fault, and tells nothing of what it reads. What is there when it
-/// is made counts as written.
+/// of it. It counts each error as a fault, and tells nothing of what it reads. What is there when
+/// it is made counts as written.
 #[derive(Drop)]
 pub struct FilePages<F> {
     file: F,

@@ -9,8 +9,8 @@ use std::{fs, io};
 
 const FILES: usize = 14;
 
-/// Opens the disk of the worker in this folder: file f of worker w in DIR is `DIR/w/f`, both numbers
-/// in decimal. What is missing of DIR, `DIR/w` and the files is made; the parent of DIR has to be
+/// Opens the disk of the worker in this folder: file f of worker w in DIR is `DIR/w/f`, both
+/// numbers in decimal. What is missing of DIR, `DIR/w` and the files is made; the parent of DIR has to be
 /// there. It holds a lock on file 0, and fails where another process has it.
 pub fn open_disk(
     rt: &HostRuntime,

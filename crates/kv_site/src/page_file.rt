@@ -20,8 +20,8 @@ pub trait PageFile {
     /// How often it has failed. The count never falls.
     ghost faults: { Self → ℕ };
 
-    /// Reads a page, of which the file has all bytes, a part, or none: what it lacks is zeros. After
-    /// `Failed` the buffer holds anything.
+    /// Reads a page, of which the file has all bytes, a part, or none: what it lacks is zeros.
+    /// After `Failed` the buffer holds anything.
     fn read(&mut self, page: u32, content: &mut [u8; 4096]) -> Result<(), Failed>
         requires { page < 2 ^ 32 - 1 }
         ensures content { IsTrue tells → OnOk result (content.new ≡ reads self.old page) }

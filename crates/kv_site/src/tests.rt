@@ -261,8 +261,8 @@ fn a_session_reads_and_writes_files(rt: HostRuntime) -> Result<(), Fail> {
     Ok(())
 }
 
-// A file in memory. A call moves at most so many bytes, and fails at the listed numbers, counted from
-// 1 over all its calls.
+// A file in memory. A call moves at most so many bytes, and fails at the listed numbers, counted
+// from 1 over all its calls.
 #[derive(Drop)]
 struct MemoryFile {
     bytes: Cell<[u8; 8192]>,
@@ -343,8 +343,8 @@ impl OpenFile for MemoryFile {
     }
 }
 
-// A disk of files in memory of 5,000 bytes each, of which a call moves at most so many bytes. File 3
-// and the folder of all files fail at their listed calls.
+// A disk of files in memory of 5,000 bytes each, of which a call moves at most so many bytes. File
+// 3 and the folder of all files fail at their listed calls.
 fn memory_disk(
     alloc: Global,
     most: usize,

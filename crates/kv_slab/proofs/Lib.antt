@@ -1,0 +1,17 @@
+pub mod RunLemmas
+pub mod RoundLemmas
+pub mod SlotLemmas
+pub mod StepLemmas
+pub mod SoFarLemmas
+pub mod PageLemmas
+pub mod TakeLemmas
+pub mod AssignLemmas
+pub mod JoinLemmas
+pub mod SlotTaking
+pub mod AssignSteps
+pub mod LeaveSteps
+pub mod SettleLemmas
+pub mod StoreLemmas
+pub mod PlanLemmas
+pub mod LargeTearing
+pub mod HandOver

@@ -1,0 +1,23 @@
+use Rattle.std.proofs.Common.{◌≡◌, ℕ, length, IsTrue}
+use Rattle.std.specs.FinMap as finite
+use Rattle.kv_model.specs.Layout.{all_classes}
+use Rattle.kv_model.specs.Reading.{slot_at}
+use Rattle.kv_slab.specs.declared.change.Change.{Change}
+use Rattle.kv_slab.specs.declared.moves.Move.{Move}
+use Rattle.kv_slab.specs.Moves.{IsPair, IsMove}
+use Rattle.kv_disk.specs.Steps.{ReadsAtMost}
+use Rattle.kv_slab.specs.Rooms.{Rooms, AreRooms, AreLinked, ArePlaced}
+use Rattle.kv_slab.specs.Assigned.{AreEnds}
+use Rattle.kv_slab.proofs.AssignSteps.{SoFar}
+use Rattle.kv_slab.proofs.assign.assign.Given as goal
+
+abbrev pub invariant-loop-change : goal.invariant-loop-change
+invariant-loop-change g l = record {
+  reads : ReadsAtMost g.D.Disk l.change-index l.fn.disk.disk l.disk.disk;
+  ends : AreEnds l.rooms.items;
+  count : length l.moves.items ≡ l.change-index;
+  each : (i : ℕ) (c : Change) (m : Move) → IsPair l.changes l.moves.items i c m → IsMove (finite.get (g.I.Index.entries l.index)) c m;
+  assigned : IsTrue g.D.Disk.tells → (start : Rooms) → AreRooms l.fn.rooms.items start → ArePlaced (finite.get (g.I.Index.entries l.index)) start
+      → AreLinked (slot_at all_classes (g.D.Disk.seen l.fn.disk.disk)) start
+      → SoFar (finite.get (g.I.Index.entries l.index)) (slot_at all_classes (g.D.Disk.seen l.fn.disk.disk)) l.rooms.items start l.changes l.moves.items;
+}

@@ -1,0 +1,11 @@
+pub mod Given
+pub mod Rounds
+pub mod Images
+pub mod Pages
+pub mod Fault
+pub mod Moves
+pub mod Rooms
+pub mod Assigned
+pub mod Settled
+pub mod View
+pub mod Large

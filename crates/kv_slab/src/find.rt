@@ -1,0 +1,120 @@
+ghost use Rattle.std.specs.Prelude.{◌≡◌, ℕ, ◌+◌, ◌<◌, ◌≤◌, List, None, Some, IsTrue, IfOk, IfErr};
+ghost use Rattle.std.specs.Prelude.{MatchOption, length, take, drop};
+ghost use Rattle.std.specs.FinMap as finite;
+ghost use Rattle.kv_model.specs.Layout.{all_classes, slot_size};
+ghost use Rattle.kv_model.specs.Reading.{slot_at};
+ghost use Rattle.kv_model.specs.Slots.{Item as Stored, read_small};
+ghost use Rattle.kv_slab.specs.Moves.{IsSmallPlace, ArePlaces};
+ghost use Rattle.kv_disk.specs.Steps.{ReadsAtMost};
+ghost use Rattle.kv_slab.specs.Fault.{HasStepCause};
+ghost use Rattle.kv_index.specs.Entries.{HasNoneFrom};
+ghost use Rattle.kv_slab.specs.View.{HasItems, IsAnswer, IsNextItem, map_of};
+
+use crate::change::Item;
+use crate::edits::small_spot;
+use crate::fault::StepFault;
+use crate::read::read_page;
+use kv_base::{Bytes, Place};
+use kv_cache::Cached;
+use kv_disk::Disk;
+use kv_index::Index;
+use kv_slot::{Slot, read_slot};
+use std::alloc::Global;
+
+/// The value of the item in the slot. A slot without one is answered by `NoMemory`.
+fn value_in(
+    alloc: Global,
+    page: &[u8; 4096],
+    class: u8,
+    offset: u32,
+) -> Result<Bytes, StepFault>
+    requires class { (1 ≤ class) × (class ≤ 7) }
+    requires within { offset + slot_size class ≤ 4096 }
+    ensures value { IfOk result (λ v. (stamp : ℕ) (key value : List ℕ) → read_small all_classes class
+        (take (slot_size class) (drop offset page.now)) ≡ Stored stamp key value → v ≡ value) }
+    ensures cause { IfErr result (λ fault. fault ≡ StepFault.NoMemory) }
+{
+    match read_slot(page, class, offset) {
+        Slot::Item { value, .. } => match Bytes::copy(alloc, value) {
+            Ok(copy) => Ok(copy),
+            Err(_) => Err(StepFault::NoMemory),
+        },
+        _ => Err(StepFault::NoMemory),
+    }
+}
+
+/// The value of the item at the place.
+fn read_value<D: Disk>(
+    alloc: Global,
+    disk: &mut Cached<D>,
+    place: Place,
+) -> Result<Bytes, StepFault>
+    requires place { IsSmallPlace place }
+    ensures value { IsTrue D.tells → IfOk result (λ v. (stamp : ℕ) (key value : List ℕ)
+        → slot_at all_classes (D.seen disk.old.disk) place.class place.slot
+        ≡ Stored stamp key value → v ≡ value) }
+    ensures reads { ReadsAtMost ⟦<D as Disk>⟧ 1 disk.old.disk disk.new.disk }
+    ensures cause { IfErr result (HasStepCause (D.faults disk.old.disk) (D.faults disk.new.disk)) }
+{
+    let (number, offset) = small_spot(place);
+    let mut page = [0; 4096];
+    read_page(disk, place.class, number, &mut page)?;
+    value_in(alloc, &page, place.class, offset)
+}
+
+/// The key's item.
+pub fn find_item<D: Disk, I: Index>(
+    alloc: Global,
+    disk: &mut Cached<D>,
+    index: &I,
+    key: &[u8],
+) -> Result<Option<Item>, StepFault>
+    requires places { ArePlaces (finite.get (I.entries index.now)) }
+    ensures answer { IsTrue D.tells → HasItems (D.seen disk.old.disk) (finite.get (I.entries index.now))
+        → IfOk result (λ item. IsAnswer item key.now
+        (map_of (D.seen disk.old.disk) (finite.get (I.entries index.now)) key.now)) }
+    ensures reads { ReadsAtMost ⟦<D as Disk>⟧ 1 disk.old.disk disk.new.disk }
+    ensures cause { IfErr result (HasStepCause (D.faults disk.old.disk) (D.faults disk.new.disk)) }
+{
+    match index.find(key) {
+        Some(entry) => {
+            let value = read_value(alloc, disk, entry.place)?;
+            let key = Bytes::copy(alloc, key)?;
+            Ok(Some(Item {
+                key,
+                stamp: entry.stamp,
+                value,
+            }))
+        }
+        None => Ok(None),
+    }
+}
+
+/// The item with the least key at or after this one.
+pub fn next_item<D: Disk, I: Index>(
+    alloc: Global,
+    disk: &mut Cached<D>,
+    index: &I,
+    key: &[u8],
+) -> Result<Option<Item>, StepFault>
+    requires places { ArePlaces (finite.get (I.entries index.now)) }
+    ensures next { IsTrue D.tells → HasItems (D.seen disk.old.disk) (finite.get (I.entries index.now))
+        → IfOk result (λ item. IsNextItem (I.entries index.now) (D.seen disk.old.disk) key.now
+        item) }
+    ensures none { HasNoneFrom (I.entries index.now) key.now → disk.new ≡ disk.old }
+    ensures reads { ReadsAtMost ⟦<D as Disk>⟧ 1 disk.old.disk disk.new.disk }
+    ensures cause { IfErr result (HasStepCause (D.faults disk.old.disk) (D.faults disk.new.disk)) }
+{
+    match index.next_at_or_after(key) {
+        Some((key, entry)) => {
+            let value = read_value(alloc, disk, entry.place)?;
+            let key = Bytes::copy(alloc, key)?;
+            Ok(Some(Item {
+                key,
+                stamp: entry.stamp,
+                value,
+            }))
+        }
+        None => Ok(None),
+    }
+}

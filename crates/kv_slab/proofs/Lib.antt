@@ -14,4 +14,10 @@ pub mod SettleLemmas
 pub mod StoreLemmas
 pub mod PlanLemmas
 pub mod LargeTearing
+pub mod SetLemmas
+pub mod ListLemmas
+pub mod MixLemmas
+pub mod WholeLemmas
+pub mod CountLemmas
+pub mod LengthLemmas
 pub mod HandOver

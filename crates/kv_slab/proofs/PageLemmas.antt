@@ -8,7 +8,7 @@ use Rattle.std.proofs.lemmas.List.Quantifiers.{position-Some}
 use Rattle.std.specs.List.{position_or_len}
 use Rattle.kv_base.specs.Image.{Image, with_page}
 use Rattle.kv_base.proofs.ImageLemmas.{one_place, with_page-at, with_page-other, same_image}
-use Rattle.kv_model.specs.Layout.{slot_size, is_small, slots_in_page}
+use Rattle.kv_model.specs.Layout.{slot_size, is_small, slots_in_page, pages_in_slot}
 use Rattle.kv_model.specs.Reading.{page_of, offset_of}
 use Rattle.kv_model.specs.Recovery.{most_pages}
 use Rattle.kv_slot.specs.Overwrite.{overwritten}
@@ -198,6 +198,21 @@ over_push image f p xs new missing e d same =
     (λ (far : (g ≡ f) → (q ≡ p) → ⊥). push_other image f p xs new g q (elsewhere f p g q new at far))
     (one_place g q f p))
 
+-- a page more that is another than the image has
+pub over_push_set : (image : Image) (f p : ℕ) (xs : List Page) (new : Page) → Missing f p xs → new.file ≡ f → new.page ≡ p
+    → over image (xs ++ new ∷ []) ≡ with_page (over image xs) f p new.content
+over_push_set image f p xs new missing e d =
+    let at : is_at f p new ≡ true = rw (eq-eqb new.file f e, eq-eqb new.page p d) in
+    same_image (over image (xs ++ new ∷ [])) (with_page (over image xs) f p new.content) (λ g q.
+    ⊎_elim
+    (λ (one : (g ≡ f) × (q ≡ p)).
+    ap (λ (h : ℕ). over image (xs ++ new ∷ []) h q) one.0 ∙ ap (λ (r : ℕ). over image (xs ++ new ∷ []) f r) one.1
+    ∙ push_here image f p xs new at missing
+    ∙ sym (with_page-at (over image xs) f p new.content g q one.0 one.1))
+    (λ (far : (g ≡ f) → (q ≡ p) → ⊥). push_other image f p xs new g q (elsewhere f p g q new at far)
+    ∙ sym (with_page-other (over image xs) f p new.content g q far))
+    (one_place g q f p))
+
 missing_push : (f p : ℕ) (xs : List Page) (new : Page) → Missing f p xs → is_at f p new ≡ false → Missing f p (xs ++ new ∷ [])
 missing_push f p [] new m e = (e, tt)
 missing_push f p (x ∷ xs) new m e = (m.0, missing_push f p xs new m.1 e)
@@ -221,6 +236,12 @@ pub over_pushed : (image : Image) (f p : ℕ) (xs ys : List Page) (ok : Bool) (n
 over_pushed image f p xs ys ok new done is missing e d same =
     let longer : ys ≡ xs ++ new ∷ [] = rw done at is in
     ap (λ (zs : List Page). over image zs) longer ∙ over_push image f p xs new missing e d same
+
+pub over_pushed_set : (image : Image) (f p : ℕ) (xs ys : List Page) (ok : Bool) (new : Page) → ok ≡ true → ys ≡ (if ok then xs ++ new ∷ [] else xs) → Missing f p xs → new.file ≡ f → new.page ≡ p
+    → over image ys ≡ with_page (over image xs) f p new.content
+over_pushed_set image f p xs ys ok new done is missing e d =
+    let longer : ys ≡ xs ++ new ∷ [] = rw done at is in
+    ap (λ (zs : List Page). over image zs) longer ∙ over_push_set image f p xs new missing e d
 
 pub apart_pushed : (f p : ℕ) (xs ys : List Page) (ok : Bool) (new : Page) → ok ≡ true → ys ≡ (if ok then xs ++ new ∷ [] else xs) → Missing f p xs → new.file ≡ f → new.page ≡ p → AreApart xs → AreApart ys
 apart_pushed f p xs ys ok new done is missing e d apart =
@@ -274,14 +295,14 @@ pub apart_renewed : (ys : List Page) (i f p : ℕ) (was new : Page) → HasAt ys
 apart_renewed ys i f p was new has is e d apart = apart_set ys i new (same_place ys i was new has.below is e d) apart
 
 abbrev IsOfSlab : Page → Type 0
-IsOfSlab page = (1 ≤ page.file) × (page.file ≤ 7) × (page.page < most_pages page.file)
+IsOfSlab page = (1 ≤ page.file) × (page.file ≤ 11) × (page.page < most_pages page.file)
 
 pub of_slabs_set : (xs : List Page) (i : ℕ) (was new : Page) → i < length xs → was ≡ get_or xs i was → new.file ≡ was.file → new.page ≡ was.page → AreOfSlabs xs → AreOfSlabs (set xs i new)
 of_slabs_set [] i was new below is e d of = of
 of_slabs_set (x ∷ xs) zero was new below is e d of =
     let file : x.file ≡ new.file = sym (e ∙ ap (λ (q : Page). q.file) is) in
     let page : x.page ≡ new.page = sym (d ∙ ap (λ (q : Page). q.page) is) in
-    (subst (λ (f : ℕ). (1 ≤ f) × (f ≤ 7) × (new.page < most_pages f)) file (subst (λ (p : ℕ). (1 ≤ x.file) × (x.file ≤ 7) × (p < most_pages x.file)) page of.0), of.1)
+    (subst (λ (f : ℕ). (1 ≤ f) × (f ≤ 11) × (new.page < most_pages f)) file (subst (λ (p : ℕ). (1 ≤ x.file) × (x.file ≤ 11) × (p < most_pages x.file)) page of.0), of.1)
 of_slabs_set (x ∷ xs) (suc i) was new below is e d of = (of.0, of_slabs_set xs i was new (omega arith) is e d of.1)
 
 of_slabs_push : (xs : List Page) (new : Page) → IsOfSlab new → AreOfSlabs xs → AreOfSlabs (xs ++ new ∷ [])
@@ -289,11 +310,11 @@ of_slabs_push [] new is of = (is, tt)
 of_slabs_push (x ∷ xs) new is of = (of.0, of_slabs_push xs new is of.1)
 
 pub pages_pushed : (f p : ℕ) (xs ys : List Page) (ok : Bool) (new : Page) → ok ≡ true → ys ≡ (if ok then xs ++ new ∷ [] else xs) → Missing f p xs → new.file ≡ f → new.page ≡ p
-    → 1 ≤ f → f ≤ 7 → p < most_pages f → ArePages xs → ArePages ys
+    → 1 ≤ f → f ≤ 11 → p < most_pages f → ArePages xs → ArePages ys
 pages_pushed f p xs ys ok new done is missing e d low high small pages =
     let longer : ys ≡ xs ++ new ∷ [] = rw done at is in
-    let of : IsOfSlab new = subst (λ (g : ℕ). (1 ≤ g) × (g ≤ 7) × (new.page < most_pages g)) (sym e)
-        (subst (λ (q : ℕ). (1 ≤ f) × (f ≤ 7) × (q < most_pages f)) (sym d) (low, high, small)) in
+    let of : IsOfSlab new = subst (λ (g : ℕ). (1 ≤ g) × (g ≤ 11) × (new.page < most_pages g)) (sym e)
+        (subst (λ (q : ℕ). (1 ≤ f) × (f ≤ 11) × (q < most_pages f)) (sym d) (low, high, small)) in
     record {
       apart = apart_pushed f p xs ys ok new done is missing e d pages.apart;
       of_slabs = subst AreOfSlabs (sym longer) (of_slabs_push xs new of pages.of_slabs);
@@ -306,19 +327,19 @@ pages_renewed ys i f p was new has is e d pages = record {
 }
 
 -- pages of slabs leave all others as they are
-pub over_beside : (image : Image) (pages : List Page) (f p : ℕ) → AreOfSlabs pages → (1 ≤ f → f ≤ 7 → p < most_pages f → ⊥) → over image pages f p ≡ image f p
+pub over_beside : (image : Image) (pages : List Page) (f p : ℕ) → AreOfSlabs pages → (1 ≤ f → f ≤ 11 → p < most_pages f → ⊥) → over image pages f p ≡ image f p
 over_beside image [] f p of out = refl
 over_beside image (held ∷ rest) f p of out =
     ⊎_elim
     (λ (t : (is_at f p held ≡ true) × (held.file ≡ f) × (held.page ≡ p)).
-    let here : (1 ≤ f) × (f ≤ 7) × (p < most_pages f) = subst (λ (g : ℕ). (1 ≤ g) × (g ≤ 7) × (p < most_pages g)) t.1
-        (subst (λ (q : ℕ). (1 ≤ held.file) × (held.file ≤ 7) × (q < most_pages held.file)) t.2 of.0) in
+    let here : (1 ≤ f) × (f ≤ 11) × (p < most_pages f) = subst (λ (g : ℕ). (1 ≤ g) × (g ≤ 11) × (p < most_pages g)) t.1
+        (subst (λ (q : ℕ). (1 ≤ held.file) × (held.file ≤ 11) × (q < most_pages held.file)) t.2 of.0) in
     absurd (out here.0 here.1 here.2))
     (λ (t : (is_at f p held ≡ false) × ((f ≡ held.file) → (p ≡ held.page) → ⊥)). rw t.0 (over_beside image rest f p of.1 out))
     (at_place f p held)
 
 -- the pages of the slots below 2^24
-pub page_small : (class slot : ℕ) → 1 ≤ class → class ≤ 7 → slot < 2 ^ 24 → page_of class slot < most_pages class
+pub page_small : (class slot : ℕ) → 1 ≤ class → class ≤ 11 → slot < 2 ^ 24 → page_of class slot < most_pages class
 page_small zero slot low high below = absurd (omega arith)
 page_small (suc zero) slot low high below = let e : slot / 64 < 262144 = omega arith in e
 page_small (suc (suc zero)) slot low high below = let e : slot / 32 < 524288 = omega arith in e
@@ -327,9 +348,45 @@ page_small (suc (suc (suc (suc zero)))) slot low high below = let e : slot / 8 <
 page_small (suc (suc (suc (suc (suc zero))))) slot low high below = let e : slot / 4 < 4194304 = omega arith in e
 page_small (suc (suc (suc (suc (suc (suc zero)))))) slot low high below = let e : slot / 2 < 8388608 = omega arith in e
 page_small (suc (suc (suc (suc (suc (suc (suc zero))))))) slot low high below = let e : slot / 1 < 16777216 = omega arith in e
-page_small (suc (suc (suc (suc (suc (suc (suc (suc n)))))))) slot low high below = absurd (omega arith)
+page_small (suc (suc (suc (suc (suc (suc (suc (suc zero)))))))) slot low high below = let e : slot * 2 < 33554432 = omega arith in e
+page_small (suc (suc (suc (suc (suc (suc (suc (suc (suc zero))))))))) slot low high below = let e : slot * 4 < 67108864 = omega arith in e
+page_small (suc (suc (suc (suc (suc (suc (suc (suc (suc (suc zero)))))))))) slot low high below = let e : slot * 8 < 134217728 = omega arith in e
+page_small (suc (suc (suc (suc (suc (suc (suc (suc (suc (suc (suc zero))))))))))) slot low high below = let e : slot * 16 < 268435456 = omega arith in e
+page_small (suc (suc (suc (suc (suc (suc (suc (suc (suc (suc (suc (suc n)))))))))))) slot low high below = absurd (omega arith)
 
-most_small : (class : ℕ) → 1 ≤ class → class ≤ 7 → most_pages class ≤ 16777216
+-- all pages of these slots
+pub pages_small : (class slot : ℕ) → 8 ≤ class → class ≤ 11 → slot < 2 ^ 24 → page_of class slot + pages_in_slot class ≤ most_pages class
+pages_small zero slot low high below = absurd (omega arith)
+pages_small (suc zero) slot low high below = absurd (omega arith)
+pages_small (suc (suc zero)) slot low high below = absurd (omega arith)
+pages_small (suc (suc (suc zero))) slot low high below = absurd (omega arith)
+pages_small (suc (suc (suc (suc zero)))) slot low high below = absurd (omega arith)
+pages_small (suc (suc (suc (suc (suc zero))))) slot low high below = absurd (omega arith)
+pages_small (suc (suc (suc (suc (suc (suc zero)))))) slot low high below = absurd (omega arith)
+pages_small (suc (suc (suc (suc (suc (suc (suc zero))))))) slot low high below = absurd (omega arith)
+pages_small (suc (suc (suc (suc (suc (suc (suc (suc zero)))))))) slot low high below = let e : slot * 2 + 2 ≤ 33554432 = omega arith in e
+pages_small (suc (suc (suc (suc (suc (suc (suc (suc (suc zero))))))))) slot low high below = let e : slot * 4 + 4 ≤ 67108864 = omega arith in e
+pages_small (suc (suc (suc (suc (suc (suc (suc (suc (suc (suc zero)))))))))) slot low high below = let e : slot * 8 + 8 ≤ 134217728 = omega arith in e
+pages_small (suc (suc (suc (suc (suc (suc (suc (suc (suc (suc (suc zero))))))))))) slot low high below = let e : slot * 16 + 16 ≤ 268435456 = omega arith in e
+pages_small (suc (suc (suc (suc (suc (suc (suc (suc (suc (suc (suc (suc n)))))))))))) slot low high below = absurd (omega arith)
+
+-- a slot of these classes has 2 to 16 pages
+pub pages_few : (class : ℕ) → 8 ≤ class → class ≤ 11 → (2 ≤ pages_in_slot class) × (pages_in_slot class ≤ 16)
+pages_few zero low high = absurd (omega arith)
+pages_few (suc zero) low high = absurd (omega arith)
+pages_few (suc (suc zero)) low high = absurd (omega arith)
+pages_few (suc (suc (suc zero))) low high = absurd (omega arith)
+pages_few (suc (suc (suc (suc zero)))) low high = absurd (omega arith)
+pages_few (suc (suc (suc (suc (suc zero))))) low high = absurd (omega arith)
+pages_few (suc (suc (suc (suc (suc (suc zero)))))) low high = absurd (omega arith)
+pages_few (suc (suc (suc (suc (suc (suc (suc zero))))))) low high = absurd (omega arith)
+pages_few (suc (suc (suc (suc (suc (suc (suc (suc zero)))))))) low high = (omega arith, omega arith)
+pages_few (suc (suc (suc (suc (suc (suc (suc (suc (suc zero))))))))) low high = (omega arith, omega arith)
+pages_few (suc (suc (suc (suc (suc (suc (suc (suc (suc (suc zero)))))))))) low high = (omega arith, omega arith)
+pages_few (suc (suc (suc (suc (suc (suc (suc (suc (suc (suc (suc zero))))))))))) low high = (omega arith, omega arith)
+pages_few (suc (suc (suc (suc (suc (suc (suc (suc (suc (suc (suc (suc n)))))))))))) low high = absurd (omega arith)
+
+most_small : (class : ℕ) → 1 ≤ class → class ≤ 11 → most_pages class ≤ 268435456
 most_small zero low high = absurd (omega arith)
 most_small (suc zero) low high = omega arith
 most_small (suc (suc zero)) low high = omega arith
@@ -338,7 +395,11 @@ most_small (suc (suc (suc (suc zero)))) low high = omega arith
 most_small (suc (suc (suc (suc (suc zero))))) low high = omega arith
 most_small (suc (suc (suc (suc (suc (suc zero)))))) low high = omega arith
 most_small (suc (suc (suc (suc (suc (suc (suc zero))))))) low high = omega arith
-most_small (suc (suc (suc (suc (suc (suc (suc (suc n)))))))) low high = absurd (omega arith)
+most_small (suc (suc (suc (suc (suc (suc (suc (suc zero)))))))) low high = omega arith
+most_small (suc (suc (suc (suc (suc (suc (suc (suc (suc zero))))))))) low high = omega arith
+most_small (suc (suc (suc (suc (suc (suc (suc (suc (suc (suc zero)))))))))) low high = omega arith
+most_small (suc (suc (suc (suc (suc (suc (suc (suc (suc (suc (suc zero))))))))))) low high = omega arith
+most_small (suc (suc (suc (suc (suc (suc (suc (suc (suc (suc (suc (suc n)))))))))))) low high = absurd (omega arith)
 
 -- a page of slabs is a page of a disk
 pub of_slab_at : (pages : List Page) (i : ℕ) (page : Page) → AreOfSlabs pages → i < length pages → page ≡ get_or pages i page

@@ -6,12 +6,16 @@ use Rattle.kv_base.specs.Image.{Image}
 use Rattle.kv_base.specs.declared.place.Place.{Place}
 use Rattle.kv_base.proofs.ImageLemmas.{one_place}
 use Rattle.kv_model.specs.Slots.{Slot, Item, Tombstone}
-use Rattle.kv_model.specs.Reading.{Reading, small_slot}
+use Rattle.kv_model.specs.Reading.{Reading, large_slot}
 use Rattle.kv_slab.specs.Rounds.{At, To, IsPlace, IsNoItem}
 use Rattle.kv_slab.specs.Images.{Sets, ReadsSet}
 use Rattle.kv_slab.specs.declared.change.Change.{Change}
 use Rattle.kv_slab.specs.declared.moves.Move.{Move}
-use Rattle.kv_slab.specs.Moves.{to_of, IsPair, IsNewAt, FirstSoFar, IsLeftAt, SecondSoFar, TargetsApart, LeftApart, StillFirst, StillSecond, IsWritten, IsVacated}
+use Rattle.kv_slab.specs.Moves.{to_of, IsPair, IsNewAt, FirstSoFar, IsLeftAt, SecondSoFar, TargetsApart, LeftApart, StillFirst, StillSecond, StillBeside, AreWhole, IsWhole, IsWritten, IsVacated}
+use Rattle.kv_slab.specs.Images.{SameSlot}
+use Rattle.kv_slab.specs.Large.{HaveStamp}
+use Rattle.kv_slab.proofs.MixLemmas.{same_then}
+use Rattle.kv_slab.proofs.SetLemmas.{large_same}
 use Rattle.kv_slab.proofs.StepLemmas.{to_of_some, place_same}
 
 -- a number below the next one
@@ -196,12 +200,36 @@ second_more ms links n mid now next mv link apart here linked so_far vacated =
 
 -- one slot more was written in the first round
 pub still_first-more : (moves : List Move) (old mid now : Image) (i : ℕ) (m : Move) → slice_get moves i ≡ Some m
-    → ((c s : ℕ) → c ≤ 7 → ((p : Place) → m.to ≡ Some p → IsPlace c s p.class p.slot → ⊥) → small_slot now c s ≡ small_slot mid c s)
-    → StillFirst moves old mid → StillFirst moves old now
-still_first-more moves old mid now i m at same so_far c s low none = same c s low (λ p to here. none i m p at to here) ∙ so_far c s low none
+    → StillBeside m.to mid now → StillFirst moves old mid → StillFirst moves old now
+still_first-more moves old mid now i m at same so_far c s none =
+    same_then old mid now c s (so_far c s none) (same c s (λ p to here. none i m p at to here))
 
 -- one slot more was written in the second round
 pub still_second-more : (moves : List Move) (old mid now : Image) (i : ℕ) (m : Move) → slice_get moves i ≡ Some m
-    → ((c s : ℕ) → c ≤ 7 → ((p : Place) → m.left ≡ Some p → IsPlace c s p.class p.slot → ⊥) → small_slot now c s ≡ small_slot mid c s)
-    → StillSecond moves old mid → StillSecond moves old now
-still_second-more moves old mid now i m at same so_far c s low none = same c s low (λ p left here. none i m p at left here) ∙ so_far c s low none
+    → StillBeside m.left mid now → StillSecond moves old mid → StillSecond moves old now
+still_second-more moves old mid now i m at same so_far c s none =
+    same_then old mid now c s (so_far c s none) (same c s (λ p left here. none i m p at left here))
+
+-- one large item more was written
+pub whole_more : (cs : List Change) (ms : List Move) (n : ℕ) (now next : Image) (ch : Change) (mv : Move) → TargetsApart ms → IsPair cs ms n ch mv
+    → IsWhole ch (to_of mv.to ch.value) next → StillBeside mv.to now next → AreWhole cs ms n now → AreWhole cs ms (n + 1) next
+whole_more cs ms n now next ch mv toes pair whole still so_far i c m t below p to large =
+    ⊎_elim
+    (λ (less : i < n).
+    let g = to_of_some m.to c.value t to in
+    let same : SameSlot now next t.class t.slot = still t.class t.slot (λ q goes here.
+        let one : i ≡ n = toes i n m mv g.place q p.move pair.move g.to goes
+            (place_same g.place q (ap (λ (x : To). x.class) (sym g.is) ∙ here.0) (ap (λ (x : To). x.slot) (sym g.is) ∙ here.1)) in
+        omega arith) in
+    subst (λ (ps : List (List ℕ)). HaveStamp c.stamp ps) (sym (large_same now next t.class t.slot (same.large large))) (so_far i c m t less p to large))
+    (λ (is : i ≡ n).
+    let a = p.change in
+    let b = pair.change in
+    let d = p.move in
+    let f = pair.move in
+    let one : c ≡ ch = cc in
+    let two : m ≡ mv = cc in
+    let goes : to_of mv.to ch.value ≡ Some t = ap (λ (x : Move). to_of x.to ch.value) (sym two) ∙ ap (λ (x : Change). to_of m.to x.value) (sym one) ∙ to in
+    subst (λ (x : Change). HaveStamp x.stamp (large_slot next t.class t.slot)) (sym one)
+    (subst (λ (o : Option To). IsWhole ch o next) goes whole large))
+    (last i n below)

@@ -1,8 +1,9 @@
 -- A store while its plan is carried out, and afterwards.
 use Rattle.std.specs.List.{slice_get}
 use Rattle.std.specs.Str.{bytes_eq}
-use Rattle.std.proofs.Common.{◌≡◌, ◌⊎◌, inl, inr, ◌∙◌, ℕ, zero, suc, ◌<◌, ◌≤◌, ◌+◌, ◌-◌, replicate, Bool, true, false, List, [], ◌∷◌, ◌++◌, length, take, Option, None, Some, refl, sym, ap, subst, arith, IsTrue, cond}
-use Rattle.std.proofs.lemmas.Bool.{cases_lt, cases_eq}
+use Rattle.std.proofs.Common.{◌≡◌, ◌⊎◌, inl, inr, ◌∙◌, ℕ, zero, suc, ◌<◌, ◌≤◌, ◌+◌, ◌-◌, replicate, Bool, true, false, List, [], ◌∷◌, ◌++◌, length, take, Option, None, Some, refl, sym, ap, subst, arith, IsTrue, cond, eqb, map}
+use Rattle.std.specs.List.{AllByRecursion}
+use Rattle.std.proofs.lemmas.Bool.{cases_lt, cases_eq, cond-false, lt-leb, and_right}
 use Rattle.std.proofs.lemmas.Option.{slice_get_within}
 use Rattle.kv_base.specs.Image.{Image, zero_page}
 use Rattle.kv_base.specs.Partition.{owner_of}
@@ -10,52 +11,69 @@ use Rattle.kv_base.specs.declared.place.Place.{Place}
 use Rattle.kv_index.specs.declared.entry.Entry.{Entry}
 use Rattle.kv_model.specs.Head.{head_page}
 use Rattle.kv_model.specs.Layout.{all_classes}
-use Rattle.kv_model.specs.Slots.{Slot, Item, Never, Tombstone}
-use Rattle.kv_model.specs.Reading.{Reading, Copy, Gives, IsFound, slot_at, small_slot}
+use Rattle.kv_model.specs.Slots.{Slot, Item, Never, Tombstone, stamp_field}
+use Rattle.kv_model.specs.Reading.{Reading, Copy, Gives, IsFound, slot_at, large_slot}
 use Rattle.kv_model.specs.Recovery.{most_pages}
 use Rattle.kv_slab.specs.Given.{Answer, GivesItem}
 use Rattle.kv_slab.specs.Rounds.{At, To, Step, Index, Steps, IsPlace, Holds, Fits, InFirst, InSecond, FirstDone, SecondDone, OldOrNew, IsNew, IsUnused, IsLeft, answer_of, item_of, moved, after_step}
-use Rattle.kv_slab.specs.Images.{Mix}
+use Rattle.kv_slab.specs.Images.{Mix, IsZeroSlot}
+use Rattle.kv_slab.specs.Floor.{HasFloorBelow}
+use Rattle.kv_slab.specs.Large.{AreBelow}
+use Rattle.kv_index.specs.Entries.{Entries}
+use Rattle.std.specs.FinMap as finite
+use Rattle.std.specs.Prelude.{◌&&◌}
 use Rattle.kv_slab.specs.Pages.{over, InRounds, ArePages}
 use Rattle.kv_slab.specs.declared.change.Change.{Change}
 use Rattle.kv_slab.specs.declared.moves.Move.{Move}
 use Rattle.kv_slab.specs.declared.page.Page.{Page}
 use Rattle.kv_slab.specs.declared.room.Room.{Room}
-use Rattle.kv_slab.specs.Moves.{IsPair, AreDistinct, AreMoves, AreAllMoves, to_of, steps_of, answer_after, ArePlaces, IsSmallPlace, CanHold}
-use Rattle.kv_slab.specs.Rooms.{Free, Rooms, IsListed, ArePlaced, AreLinked, taken, needed, rooms_after}
+use Rattle.kv_slab.specs.Moves.{IsPair, AreDistinct, AreMoves, AreAllMoves, to_of, step_of, steps_of, answer_after, ArePlaces, IsSlabPlace, CanHold}
+use Rattle.kv_slab.specs.Rooms.{Free, Rooms, IsListed, ArePlaced, AreLinked, taken, needed, rooms_after, item_class, left_for}
+use Rattle.kv_model.specs.Layout.{is_small}
 use Rattle.kv_slab.specs.Settled.{moved_by, entry_at}
 use Rattle.kv_disk.specs.declared.disk.Disk.{Ghosts}
 use Rattle.kv_base.specs.Crash.{MayLeave}
 use Rattle.kv_base.proofs.ImageLemmas.{only_image}
 use Rattle.kv_disk.specs.Steps.{ReadsAtMost}
 use Rattle.kv_slab.specs.declared.change.Item.{Item as ItemOf}
-use Rattle.kv_slab.specs.View.{IsOpen, IsAnswer, HasItems, IsOfWorker, Stands, map_of, OldOrNewMap, CanChange, PlannedFor}
+use Rattle.kv_slab.specs.Plans.{CanChange, PlannedFor}
+use Rattle.kv_slab.specs.View.{IsOpen, IsAnswer, HasItems, IsOfWorker, Stands, map_of, OldOrNewMap}
 use Rattle.kv_slab.proofs.RoundLemmas.{first_round, second_round, holds_after, answers_after}
-use Rattle.kv_slab.proofs.SlotLemmas.{mix_slot}
+use Rattle.kv_slab.proofs.SlotLemmas.{slot_at-same}
+use Rattle.kv_slab.proofs.SetLemmas.{slot_same, heads_at-large}
+use Rattle.kv_slab.proofs.LargeTearing.{mix_large}
+use Rattle.kv_slab.proofs.MixLemmas.{target_or_not, mix_small, mix_still, mix_first, zero_same, same_then}
 use Rattle.kv_slab.proofs.PageLemmas.{over_beside}
-use Rattle.kv_slab.proofs.StepLemmas.{fits_of, in_first_of, first_done_of, in_second_of, second_done_of, to_of_some, change_at, get_some}
+use Rattle.kv_slab.proofs.StepLemmas.{fits_of, in_first_of, first_done_of, in_second_of, second_done_of, to_of_some, Goes, goes_there, steps_at, change_at, get_some}
 use Rattle.kv_slab.proofs.JoinLemmas.{moves_of, now_index, final, placed_after, linked_after, rooms_are, entry_now, target_below, left_below}
 use Rattle.kv_slab.proofs.SettleLemmas.{agree_of, answers_same, moved_steps}
 
--- an image inside the first round
-first_mix : (index : Index) (steps : Steps) (a b image : Image) → ((f p : ℕ) → 8 ≤ f → b f p ≡ a f p) → InFirst index steps (slot_at all_classes a) (slot_at all_classes b) → Mix a b image
-    → InFirst index steps (slot_at all_classes a) (slot_at all_classes image)
-first_mix index steps a b image files in_first mix c s = elim (mix_slot a b image files mix c s) [
-  | inl one ↦ inl one
-  | inr two ↦
-      let P : Slot → Type 0 = λ x. (x ≡ slot_at all_classes a c s) ⊎ (IsNew steps c s x ⊎ IsUnused index c s x) in
-      subst P (sym two) (in_first c s)
-]
+-- what is asked of changes where the disk tells what it reads
+pub record MayChange (seen : Image) (index : Index) (worker workers : ℕ) (changes : List Change) : Type 0 where
+  pub distinct : AreDistinct changes
+  pub owned : (i : ℕ) (c : Change) → slice_get changes i ≡ Some c → owner_of c.key workers ≡ worker
+  pub above : (i : ℕ) (c : Change) → slice_get changes i ≡ Some c → (k : List ℕ) (e : Entry) → index k ≡ Some e → e.stamp < c.stamp
+  pub floor : (i : ℕ) (c : Change) → slice_get changes i ≡ Some c → HasFloorBelow c.stamp seen
 
--- an image inside the second round
-second_mix : (steps : Steps) (a b image : Image) → ((f p : ℕ) → 8 ≤ f → b f p ≡ a f p) → InSecond steps (slot_at all_classes a) (slot_at all_classes b) → Mix a b image
-    → InSecond steps (slot_at all_classes a) (slot_at all_classes image)
-second_mix steps a b image files in_second mix c s = elim (mix_slot a b image files mix c s) [
-  | inl one ↦ inl one
-  | inr two ↦
-      let P : Slot → Type 0 = λ x. (x ≡ slot_at all_classes a c s) ⊎ IsLeft steps c s x in
-      subst P (sym two) (in_second c s)
-]
+pub may_of : (tells : Bool) (seen : Image) (entries : Entries) (limit worker workers : ℕ) (changes : List Change) → IsTrue tells
+    → CanChange tells seen entries limit worker workers changes → MayChange seen (finite.get entries) worker workers changes
+may_of tells seen entries limit worker workers changes told can = record {
+  distinct = can.distinct;
+  owned = can.owned;
+  above = can.above;
+  floor = can.floor told;
+}
+
+-- the pages of a slot have lesser numbers at their heads
+below_of : (stamp : ℕ) (pages : List (List ℕ)) → AllByRecursion (λ head. head < stamp) (map stamp_field pages) → AreBelow stamp pages
+below_of stamp [] all = tt
+below_of stamp (page ∷ pages) all = (all.0, below_of stamp pages all.1)
+
+-- a key never stays at a large place
+large_left : (from : Option Entry) (item : Option ℕ) (e : Entry) (class : ℕ) → from ≡ Some e → item ≡ Some class → 8 ≤ class → left_for from item ≡ Some e.place
+large_left from item e class from_is item_is large =
+    ap (λ f. left_for f item) from_is ∙ ap (λ i. left_for (Some e) i) item_is
+    ∙ cond-false (eqb e.place.class class && is_small class) None (Some e.place) (and_right (eqb e.place.class class) (is_small class) (lt-leb class 7 (omega arith)))
 
 -- what the items give is what is given for an owned key
 gives-owned : (reading : Reading) (worker workers : ℕ) (k : List ℕ) (a : Answer) → owner_of k workers ≡ worker → GivesItem reading k a → Gives reading worker workers k a
@@ -67,7 +85,7 @@ gives-owned reading worker workers k (Some answer) owned gives =
     }, gives.2, gives.3)
 
 module _ (seen : Image) (index : Index) (start : Rooms) (worker workers : ℕ) (changes : List Change) (moves : List Move) (first second : List Page) (kept : List Room)
-    (stands : Stands seen index start worker workers) (can : CanChange index worker workers changes) (all_moves : AreAllMoves index changes moves)
+    (stands : Stands seen index start worker workers) (can : MayChange seen index worker workers changes) (all_moves : AreAllMoves index changes moves)
     (first_pages : ArePages first) (second_pages : ArePages second) (planned : PlannedFor seen index start changes moves first second kept) where
   holds_only : (c s t : ℕ) (k v : List ℕ) → slot_at all_classes seen c s ≡ Item t k v → index k ≡ Some (record { stamp = t; place = record { class = c; slot = s } })
   holds_only c s t k v is = elim (cases_lt s (start c).end) [
@@ -104,10 +122,7 @@ module _ (seen : Image) (index : Index) (start : Rooms) (worker workers : ℕ) (
   done : Image
   done = over (over seen first) second
 
-  files_first : (f p : ℕ) → 8 ≤ f → over seen first f p ≡ seen f p
-  files_first f p above = over_beside seen first f p first_pages.of_slabs (λ low high small. omega arith)
-
-  files_second : (f p : ℕ) → 8 ≤ f → over (over seen first) second f p ≡ over seen first f p
+  files_second : (f p : ℕ) → 12 ≤ f → over (over seen first) second f p ≡ over seen first f p
   files_second f p above = over_beside (over seen first) second f p second_pages.of_slabs (λ low high small. omega arith)
 
   in_first : InFirst index (steps_of changes moves) (slot_at all_classes seen) (slot_at all_classes (over seen first))
@@ -139,17 +154,103 @@ module _ (seen : Image) (index : Index) (start : Rooms) (worker workers : ℕ) (
     | inr other ↦ inl (subst (λ (a : Answer). Gives (slot_at all_classes image) worker workers k a) (sym (no_entry k (index k) refl other)) (λ copy found. other found.owned))
   ]
 
+  -- inside the first round a place that a large item goes to is as it was, new, or unused
+  at_target : (image : Image) → Mix seen (over seen first) image → (i : ℕ) (m : Move) (p : Place) → slice_get moves i ≡ Some m → m.to ≡ Some p → 8 ≤ p.class
+      → (slot_at all_classes image p.class p.slot ≡ slot_at all_classes seen p.class p.slot)
+      ⊎ (IsNew (steps_of changes moves) p.class p.slot (slot_at all_classes image p.class p.slot) ⊎ IsUnused index p.class p.slot (slot_at all_classes image p.class p.slot))
+  at_target image mix i m p at to large =
+      let ch = change_at index changes moves can.distinct are i m at in
+      let is = all_moves.each i ch.0 m ch.1 in
+      let goes = goes_there ch.0 m p (ch.0).value refl is.none to in
+      let target : To = record { class = p.class; slot = p.slot; value = goes.0 } in
+      let value : (ch.0).value ≡ Some goes.0 = some_value (to_of_some m.to (ch.0).value target goes.1) in
+      let some = is.some goes.0 value in
+      let same : some.0 ≡ p = (let a = some.1 in cc) in
+      let hold : CanHold ch.0 goes.0 p = subst (λ q. CanHold ch.0 goes.0 q) same some.2 in
+      let below = slice_get_within changes i ch.0 (ch.1).change in
+      let whole = planned.whole i ch.0 m target below ch.1 goes.1 large in
+      let low = below_of (ch.0).stamp (large_slot seen p.class p.slot)
+          (subst (λ heads. AllByRecursion (λ head. head < (ch.0).stamp) heads) (heads_at-large seen p.class p.slot large hold.place.high) (can.floor i ch.0 (ch.1).change p.class p.slot)) in
+      elim (mix_large seen (over seen first) image p.class p.slot (ch.0).stamp large hold.place.high low whole mix) [
+        | inl old ↦ inl old
+        | inr other ↦ elim other [
+          | inl new ↦ inr (inl (record {
+              key = (ch.0).key;
+              step = step_of ch.0 m;
+              to = target;
+              has = steps_at changes moves i ch.0 m can.distinct ch.1;
+              goes = goes.1;
+              at = (refl, refl);
+              is = new ∙ planned.writes.done i ch.0 m target below ch.1 goes.1;
+          }))
+          | inr none ↦ inr (inr (record {
+              none = none;
+              free = λ j e has here. elim (planned.assigned.target i ch.0 m p ch.1 to) [
+                | inl stays ↦
+                    let gone = planned.assigned.left i ch.0 m ch.1 ∙ large_left (index (ch.0).key) (item_class (ch.0).key (ch.0).value) (stays.0).at p.class (stays.0).has
+                        (ap (λ v. item_class (ch.0).key v) value ∙ hold.class) large in
+                    absurd (let a = sym stays.1 ∙ gone in cc)
+                | inr used ↦ used.unused (j, e, has, here)
+              ];
+          }))
+        ]
+      ]
+      where
+      some_value : Goes m.to (change_at index changes moves can.distinct are i m at).0.value (record { class = p.class; slot = p.slot; value = (goes_there (change_at index changes moves can.distinct are i m at).0 m p (change_at index changes moves can.distinct are i m at).0.value refl (all_moves.each i (change_at index changes moves can.distinct are i m at).0 m (change_at index changes moves can.distinct are i m at).1).none to).0 })
+          → (change_at index changes moves can.distinct are i m at).0.value ≡ Some (goes_there (change_at index changes moves can.distinct are i m at).0 m p (change_at index changes moves can.distinct are i m at).0.value refl (all_moves.each i (change_at index changes moves can.distinct are i m at).0 m (change_at index changes moves can.distinct are i m at).1).none to).0
+      some_value g = g.has ∙ ap Some (ap (λ (t : To). t.value) (sym g.is))
+
+  -- an image inside the first round
+  first_mix : (image : Image) → Mix seen (over seen first) image → InFirst index (steps_of changes moves) (slot_at all_classes seen) (slot_at all_classes image)
+  first_mix image mix c s = elim (cases_lt c 8) [
+    | inl low ↦ elim (mix_small seen (over seen first) image mix c s (omega arith)) [
+      | inl one ↦ inl one
+      | inr two ↦
+          let P : Slot → Type 0 = λ x. (x ≡ slot_at all_classes seen c s) ⊎ (IsNew (steps_of changes moves) c s x ⊎ IsUnused index c s x) in
+          subst P (sym two) (in_first c s)
+    ]
+    | inr large ↦ elim (target_or_not moves c s) [
+      | inl t ↦
+          let P : ℕ → ℕ → Type 0 = λ x y. (slot_at all_classes image x y ≡ slot_at all_classes seen x y)
+              ⊎ (IsNew (steps_of changes moves) x y (slot_at all_classes image x y) ⊎ IsUnused index x y (slot_at all_classes image x y)) in
+          subst (λ x. P x s) (sym t.5.0) (subst (λ y. P (t.2).class y) (sym t.5.1)
+          (at_target image mix t.0 t.1 t.2 t.3 t.4 (let e = t.5.0 in omega arith)))
+      | inr none ↦ inl (slot_same seen image c s (mix_still seen (over seen first) image mix c s large (planned.first_still c s none)))
+    ]
+  ]
+
+  -- an image inside the second round
+  second_mix : (image : Image) → Mix (over seen first) (over (over seen first) second) image → InSecond (steps_of changes moves) (slot_at all_classes (over seen first)) (slot_at all_classes image)
+  second_mix image mix c s =
+      let P : Slot → Type 0 = λ x. (x ≡ slot_at all_classes (over seen first) c s) ⊎ IsLeft (steps_of changes moves) c s x in
+      elim (cases_lt c 8) [
+        | inl low ↦ elim (mix_small (over seen first) (over (over seen first) second) image mix c s (omega arith)) [
+          | inl one ↦ inl one
+          | inr two ↦ subst P (sym two) (in_second c s)
+        ]
+        | inr large ↦ elim (cases_lt c 12) [
+          | inl limit ↦ elim (mix_first (over seen first) (over (over seen first) second) image mix planned.later c s large (omega arith)) [
+            | inl one ↦ inl one
+            | inr two ↦ subst P (sym two) (in_second c s)
+          ]
+          | inr past ↦ inl (slot_at-same image (over seen first) c s (λ p. elim (mix c p) [
+              | inl one ↦ one
+              | inr two ↦ two ∙ files_second c p past
+            ]))
+        ]
+      ]
+
   -- at each moment inside, each key has its old or its new answer
   pub inside : (image : Image) → InRounds seen first second image → OldOrNewMap (map_of seen index) changes worker workers image
   inside image (inl mix) =
       as_map image (first_round index (steps_of changes moves) (slot_at all_classes seen) holds fits (slot_at all_classes image)
-      (first_mix index (steps_of changes moves) seen (over seen first) image files_first in_first mix))
+      (first_mix image mix))
   inside image (inr mix) =
       as_map image (second_round index (steps_of changes moves) (slot_at all_classes seen) holds fits (slot_at all_classes (over seen first)) in_first first_done (slot_at all_classes image)
-      (second_mix (steps_of changes moves) (over seen first) (over (over seen first) second) image files_second in_second mix))
+      (second_mix image mix))
 
   -- a page that no slab has is as it was, at each moment
-  beside : (image : Image) → InRounds seen first second image → (f p : ℕ) → (1 ≤ f → f ≤ 7 → p < most_pages f → ⊥) → image f p ≡ seen f p
+  beside : (image : Image) → InRounds seen first second image → (f p : ℕ) → (1 ≤ f → f ≤ 11 → p < most_pages f → ⊥) → image f p ≡ seen f p
   beside image (inl mix) f p out = elim (mix f p) [
     | inl one ↦ one
     | inr two ↦ two ∙ over_beside seen first f p first_pages.of_slabs out
@@ -199,11 +300,11 @@ module _ (seen : Image) (index : Index) (start : Rooms) (worker workers : ℕ) (
       ] in
       two ∙ one ∙ stands.unused c s (omega (arith, end_up c, past))
 
-  zeros_after : (c s : ℕ) → 1 ≤ c → c ≤ 7 → (planned.mid c).end ≤ s → small_slot (over (over seen first) second) c s ≡ replicate (length (small_slot (over (over seen first) second) c s)) 0
+  zeros_after : (c s : ℕ) → 1 ≤ c → c ≤ 11 → (planned.mid c).end ≤ s → IsZeroSlot (over (over seen first) second) c s
   zeros_after c s low high past =
-      let same : small_slot (over (over seen first) second) c s ≡ small_slot seen c s =
-      planned.second_still c s high (not_left c s past) ∙ planned.first_still c s high (not_target c s past) in
-      same ∙ stands.zeros c s low high (omega (arith, end_up c, past)) ∙ ap (λ l. replicate (length l) 0) (sym same)
+      zero_same seen (over (over seen first) second) c s
+      (same_then seen (over seen first) (over (over seen first) second) c s (planned.first_still c s (not_target c s past)) (planned.second_still c s (not_left c s past)))
+      (stands.zeros c s low high (omega (arith, end_up c, past)))
 
   now_holds : Holds (now_index index start planned.mid changes moves can.distinct planned.assigned all_moves.count) (slot_at all_classes (over (over seen first) second))
   now_holds =
@@ -260,23 +361,23 @@ places_after index now changes moves all places settled k e at =
     (places k e) (sym (settled k) ∙ at)
     where
     value_place : (c : Change) (m : Move) (p : Place) (v : Option (List ℕ)) → c.value ≡ v → m.to ≡ Some p → (c.value ≡ None → m.to ≡ None)
-        → ((w : List ℕ) → c.value ≡ Some w → (q : Place) × (m.to ≡ Some q) × CanHold c w q) → IsSmallPlace p
+        → ((w : List ℕ) → c.value ≡ Some w → (q : Place) × (m.to ≡ Some q) × CanHold c w q) → IsSlabPlace p
     value_place c m p None has to none some = absurd (let a = none has in cc)
     value_place c m p (Some w) has to none some =
         let s = some w has in
         let same : s.0 ≡ p = (let a = s.1 in cc) in
-        subst IsSmallPlace same s.2.place
-    by_moves : (ms : List Move) → ((i : ℕ) (m : Move) (p : Place) → slice_get ms i ≡ Some m → m.to ≡ Some p → IsSmallPlace p)
-        → (index k ≡ Some e → IsSmallPlace e.place) → moved_by ms k (index k) ≡ Some e → IsSmallPlace e.place
+        subst IsSlabPlace same s.2.place
+    by_moves : (ms : List Move) → ((i : ℕ) (m : Move) (p : Place) → slice_get ms i ≡ Some m → m.to ≡ Some p → IsSlabPlace p)
+        → (index k ≡ Some e → IsSlabPlace e.place) → moved_by ms k (index k) ≡ Some e → IsSlabPlace e.place
     by_moves [] targets was is = was is
     by_moves (m ∷ ms) targets was is = one_of (bytes_eq m.key k) m.to (λ p. targets 0 m p refl) (by_moves ms (λ i. targets (suc i)) was) is
       where
-      one_of : (b : Bool) (o : Option Place) → ((p : Place) → o ≡ Some p → IsSmallPlace p) → (moved_by ms k (index k) ≡ Some e → IsSmallPlace e.place)
-          → cond b (entry_at m.stamp o) (moved_by ms k (index k)) ≡ Some e → IsSmallPlace e.place
+      one_of : (b : Bool) (o : Option Place) → ((p : Place) → o ≡ Some p → IsSlabPlace p) → (moved_by ms k (index k) ≡ Some e → IsSlabPlace e.place)
+          → cond b (entry_at m.stamp o) (moved_by ms k (index k)) ≡ Some e → IsSlabPlace e.place
       one_of true None targets2 rest is2 = absurd (cc)
       one_of true (Some p) targets2 rest is2 =
           let same : p ≡ e.place = (let a = is2 in cc) in
-          subst IsSmallPlace same (targets2 p refl)
+          subst IsSlabPlace same (targets2 p refl)
       one_of false o targets2 rest is2 = rest is2
 
 -- reads leave the store open

@@ -7,5 +7,9 @@ pub mod Moves
 pub mod Rooms
 pub mod Assigned
 pub mod Settled
+pub mod Memory
+pub mod Floor
+pub mod Counts
+pub mod Plans
 pub mod View
 pub mod Large

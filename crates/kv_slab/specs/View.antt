@@ -1,40 +1,38 @@
 -- A store as its callers see it.
-use Rattle.std.specs.Prelude.{◌≡◌, ◌⊎◌, ℕ, ◌+◌, ◌<◌, ◌≤◌, ◌^◌, Bool, List, Option, None, Some, IsTrue}
-use Rattle.std.specs.Prelude.{length, replicate}
-use Rattle.std.specs.List.{slice_get}
+use Rattle.std.specs.Prelude.{◌≡◌, ◌⊎◌, ℕ, ◌≤◌, Bool, List, Option, None, Some, IsTrue}
 use Rattle.std.specs.FinMap as finite
 use Rattle.kv_base.specs.Image.{Image, zero_page}
 use Rattle.kv_base.specs.Partition.{owner_of}
 use Rattle.kv_base.specs.declared.limits.Limits.{Limits}
 use Rattle.kv_cache.specs.Cache.{Cache}
 use Rattle.kv_base.specs.Crash.{Choices, Only}
+use Rattle.kv_disk.specs.declared.disk.Disk as disks
+use Rattle.kv_index.specs.declared.index.Index as indexes
 use Rattle.kv_index.specs.declared.entry.Entry.{Entry}
 use Rattle.kv_index.specs.Entries.{Entries, HasNoneFrom, IsNext}
 use Rattle.kv_model.specs.Head.{head_page}
 use Rattle.kv_model.specs.Layout.{all_classes}
-use Rattle.kv_model.specs.Reading.{Reading, Gives, slot_at, small_slot}
+use Rattle.kv_model.specs.Reading.{Gives, slot_at}
 use Rattle.kv_model.specs.Recovery.{most_pages}
 use Rattle.kv_model.specs.Slots.{Never, Item}
 use Rattle.kv_slab.specs.Given.{Answer}
 use Rattle.kv_slab.specs.Rounds.{Index, answer_of}
-use Rattle.kv_slab.specs.Pages.{over, ArePages}
-use Rattle.kv_slab.specs.Moves.{AreDistinct, ArePlaces, AllFitSmall, AreAllMoves, FirstSoFar}
-use Rattle.kv_slab.specs.Moves.{SecondSoFar, StillFirst, StillSecond, answer_after}
+use Rattle.kv_slab.specs.Images.{IsZeroSlot}
+use Rattle.kv_slab.specs.Moves.{ArePlaces, answer_after}
 use Rattle.kv_slab.specs.Rooms.{Rooms, AreRooms, ArePlaced, AreLinked}
-use Rattle.kv_slab.specs.Assigned.{Assigned, AreEnds, AreLinks, rooms_left}
+use Rattle.kv_slab.specs.Assigned.{AreEnds}
 use Rattle.kv_slab.specs.declared.change.Change.{Change}
 use Rattle.kv_slab.specs.declared.change.Item.{Item as ItemOf}
-use Rattle.kv_slab.specs.declared.moves.Move.{Move}
-use Rattle.kv_slab.specs.declared.page.Page.{Page}
 use Rattle.kv_slab.specs.declared.plan.Plan.{Plan}
 use Rattle.kv_slab.specs.declared.room.Room.{Room}
 
--- the disk with its cache, the index, the free slots and the ends by class, the worker and the
--- number of workers, the plan that is kept, and whether the store is closed
+-- the disk with its cache, the index, the free slots and the ends by class, the limits, the worker
+-- and the number of workers, the plan that is kept, and whether the store is closed
 pub record View (D I : Type 0) : Type 0 where
   pub disk : Cache D
   pub index : I
   pub rooms : List Room
+  pub limits : Limits
   pub worker : ℕ
   pub workers : ℕ
   pub plan : Option Plan
@@ -57,8 +55,7 @@ pub record Stands (image : Image) (index : Index) (rooms : Rooms)
   pub placed : ArePlaced index rooms
   pub linked : AreLinked (slot_at all_classes image) rooms
   pub unused : (c s : ℕ) → (rooms c).end ≤ s → slot_at all_classes image c s ≡ Never 0
-  pub zeros : (c s : ℕ) → 1 ≤ c → c ≤ 7 → (rooms c).end ≤ s
-      → small_slot image c s ≡ replicate (length (small_slot image c s)) 0
+  pub zeros : (c s : ℕ) → 1 ≤ c → c ≤ 11 → (rooms c).end ≤ s → IsZeroSlot image c s
   pub of_worker : IsOfWorker worker workers image
 
 -- the store is open: nothing is pending; and where the disk tells what it reads, that holds the
@@ -75,63 +72,16 @@ pub record IsOpen (tells : Bool) (seen : Image) (choices : Choices) (index : Ind
 abbrev pub map_of : Image → Index → List ℕ → Answer
 map_of seen index k = answer_of (slot_at all_classes seen) (index k)
 
+-- what each key of the store has
+abbrev pub store_map : {D I : Type 0} → disks.Ghosts D → indexes.Ghosts I → View D I → List ℕ
+    → Answer
+store_map d i store k = map_of (d.seen store.disk.disk) (finite.get (i.entries store.index)) k
+
 -- each key has what it had, or what it has after the changes
 abbrev pub OldOrNewMap : (List ℕ → Answer) → List Change → ℕ → ℕ → Image → Type 0
 OldOrNewMap map changes worker workers image = (k : List ℕ)
     → Gives (slot_at all_classes image) worker workers k (map k)
     ⊎ Gives (slot_at all_classes image) worker workers k (answer_after changes k (map k))
-
--- what is asked of changes: distinct keys of this worker, stamps above those of the index, items of
--- the classes 1 to 7
-pub record CanChange (index : Index) (worker workers : ℕ)
-    (changes : List Change) : Type 0 where
-  pub distinct : AreDistinct changes
-  pub above : (i : ℕ) (c : Change) → slice_get changes i ≡ Some c → (k : List ℕ) (e : Entry)
-      → index k ≡ Some e → e.stamp < c.stamp
-  pub owned : (i : ℕ) (c : Change) → slice_get changes i ≡ Some c → owner_of c.key workers ≡ worker
-  pub fit : AllFitSmall changes
-
--- a plan for these lists and ends: its moves, the links of the places that are left, and what its
--- pages write
-pub record PlannedFor (seen : Image) (index : Index) (start : Rooms) (changes : List Change)
-    (moves : List Move) (first second : List Page) (kept : List Room) : Type 0 where
-  pub mid : Rooms
-  pub links : List (Option ℕ)
-  pub assigned : Assigned index start mid changes moves
-  pub linked : AreLinked (slot_at all_classes seen) mid
-  pub many : length links ≡ length moves
-  pub links_are : AreLinks mid moves links
-  pub rooms : AreRooms kept (rooms_left mid moves)
-  pub writes : FirstSoFar changes moves (length changes) (slot_at all_classes seen)
-      (slot_at all_classes (over seen first))
-  pub first_still : StillFirst moves seen (over seen first)
-  pub vacates : SecondSoFar moves links (length moves) (slot_at all_classes (over seen first))
-      (slot_at all_classes (over (over seen first) second))
-  pub second_still : StillSecond moves (over seen first) (over (over seen first) second)
-
--- the plan is one for these changes
-pub record IsPlanned (tells : Bool) (seen : Image) (entries : Entries) (spare : ℕ)
-    (kept : List Room) (worker workers : ℕ) (plan : Plan) (changes : List Change) : Type 0 where
-  pub can : CanChange (finite.get entries) worker workers changes
-  pub moves : AreAllMoves (finite.get entries) changes plan.moves.items
-  pub spare_for : length plan.moves.items ≤ spare
-  pub few : finite.len entries + length plan.moves.items < 2 ^ 32
-  pub first : ArePages plan.first.items
-  pub second : ArePages plan.second.items
-  pub counts : (length plan.first.items ≤ length changes)
-      × (length plan.second.items ≤ length changes)
-  pub ends : AreEnds plan.rooms.items
-  pub told : IsTrue tells → (start : Rooms) → AreRooms kept start
-      → ArePlaced (finite.get entries) start → AreLinked (slot_at all_classes seen) start
-      → PlannedFor seen (finite.get entries) start changes plan.moves.items plan.first.items
-      plan.second.items plan.rooms.items
-
--- a plan is kept, and is one for these changes
-abbrev pub HasPlan : Bool → Image → Entries → ℕ → List Room → ℕ → ℕ → Option Plan → List Change
-    → Type 0
-HasPlan tells seen entries spare kept worker workers None changes = ⊥
-HasPlan tells seen entries spare kept worker workers (Some plan) changes =
-    IsPlanned tells seen entries spare kept worker workers plan changes
 
 -- this is the key's item
 abbrev pub IsAnswer : Option ItemOf → List ℕ → Answer → Type 0
@@ -151,3 +101,11 @@ abbrev pub IsNextItem : Entries → Image → List ℕ → Option ItemOf → Typ
 IsNextItem entries seen low None = HasNoneFrom entries low
 IsNextItem entries seen low (Some item) = (e : Entry) × IsNext entries low item.key e
     × IsAnswer (Some item) item.key (map_of seen (finite.get entries) item.key)
+
+-- on a disk that tells what it reads these are the store's free slots and ends, and its image holds
+-- it with them
+abbrev pub HasRooms : {D I : Type 0} → disks.Ghosts D → indexes.Ghosts I → View D I → Rooms
+    → Type 0
+HasRooms d i store rooms = IsTrue d.tells → AreRooms store.rooms rooms
+    × Stands (d.seen store.disk.disk) (finite.get (i.entries store.index)) rooms store.worker
+    store.workers

@@ -1,4 +1,4 @@
-ghost use Rattle.std.specs.Prelude.{◌≡◌, ℕ, ◌+◌, ◌^◌, ◌<◌, ◌≤◌, List, Option, Some, OnOk, IfOk, IfErr, IfSome};
+ghost use Rattle.std.specs.Prelude.{◌≡◌, ℕ, ◌+◌, ◌*◌, ◌^◌, ◌<◌, ◌≤◌, List, Option, Some, OnOk, IfOk, IfErr, IfSome};
 ghost use Rattle.std.specs.Prelude.{IsTrue, length};
 ghost use Rattle.std.specs.Option.{ForSome};
 ghost use Rattle.std.specs.List.{slice_get};
@@ -6,9 +6,12 @@ ghost use Rattle.kv_model.specs.Layout.{all_classes};
 ghost use Rattle.kv_model.specs.Reading.{slot_at};
 ghost use Rattle.kv_slab.specs.declared.change.Change.{Change as Changed};
 ghost use Rattle.kv_slab.specs.declared.moves.Move.{Move as Moved};
-ghost use Rattle.kv_slab.specs.Moves.{IsSmallPlace, IsPair, CanHoldAt, to_of, IsWritten, IsVacated};
+ghost use Rattle.kv_slab.specs.Floor.{HasFloorUpTo};
+ghost use Rattle.kv_slab.specs.Images.{StillLater};
+ghost use Rattle.kv_slab.specs.Moves.{IsSlabPlace, IsPair, CanHoldAt, to_of, IsWritten, IsVacated};
 ghost use Rattle.kv_slab.specs.Moves.{FirstSoFar, SecondSoFar, TargetsApart, LeftApart, StillFirst};
-ghost use Rattle.kv_slab.specs.Moves.{StillSecond, StillBeside};
+ghost use Rattle.kv_slab.specs.Moves.{StillSecond, StillBeside, AreWhole, IsWhole, AreUpTo};
+ghost use Rattle.kv_slab.specs.Moves.{StampsUpTo};
 ghost use Rattle.kv_slab.specs.Pages.{over, ArePages};
 ghost use Rattle.kv_disk.specs.Steps.{ReadsAtMost};
 ghost use Rattle.kv_slab.specs.Fault.{HasStepCause};
@@ -25,6 +28,7 @@ use std::alloc::Global;
 
 /// The new item of one change, if it has one.
 fn first_one<D: Disk>(
+    alloc: Global,
     disk: &mut Cached<D>,
     pages: &mut Vec<Page>,
     change: &Change,
@@ -38,13 +42,19 @@ fn first_one<D: Disk>(
         (slot_at all_classes (over (D.seen disk.old.disk) pages.new.items))) }
     ensures still { IsTrue D.tells → OnOk result (StillBeside to
         (over (D.seen disk.old.disk) pages.old.items) (over (D.seen disk.old.disk) pages.new.items)) }
+    ensures whole { IsTrue D.tells → OnOk result (IsWhole change.now (to_of to change.now.value)
+        (over (D.seen disk.old.disk) pages.new.items)) }
+    ensures floor { IsTrue D.tells → OnOk result ((bound : ℕ) → change.now.stamp ≤ bound
+        → HasFloorUpTo bound (over (D.seen disk.old.disk) pages.old.items)
+        → HasFloorUpTo bound (over (D.seen disk.old.disk) pages.new.items)) }
     ensures pages { ArePages pages.new.items }
-    ensures count { length pages.new.items ≤ length pages.old.items + 1 }
+    ensures count { length pages.new.items ≤ length pages.old.items + 16 }
     ensures cause { IfErr result (HasStepCause (D.faults disk.old.disk) (D.faults disk.new.disk)) }
 {
     match to {
         Some(place) => match &change.value {
             Some(value) => write_item(
+                alloc,
                 disk,
                 pages,
                 place,
@@ -75,13 +85,19 @@ pub fn plan_first<D: Disk>(
         (slot_at all_classes (over (D.seen disk.old.disk) pages.items))) }
     ensures still { IsTrue D.tells → IfOk result (λ pages.
         StillFirst moves.now (D.seen disk.old.disk) (over (D.seen disk.old.disk) pages.items)) }
+    ensures whole { IsTrue D.tells → TargetsApart moves.now → IfOk result (λ pages.
+        AreWhole changes.now moves.now (length changes.now)
+        (over (D.seen disk.old.disk) pages.items)) }
+    ensures floor { IsTrue D.tells → IfOk result (λ pages. (bound : ℕ)
+        → AreUpTo bound changes.now → HasFloorUpTo bound (D.seen disk.old.disk)
+        → HasFloorUpTo bound (over (D.seen disk.old.disk) pages.items)) }
     ensures pages { IfOk result (λ pages. ArePages pages.items) }
-    ensures count { IfOk result (λ pages. length pages.items ≤ length changes.now) }
+    ensures count { IfOk result (λ pages. length pages.items ≤ 16 * length changes.now) }
     ensures cause { IfErr result (HasStepCause (D.faults disk.old.disk) (D.faults disk.new.disk)) }
 {
     let mut pages = Vec::new(alloc);
     for i in 0..changes.len() {
-        first_one(disk, &mut pages, &changes[i], moves[i].to)?;
+        first_one(alloc, disk, &mut pages, &changes[i], moves[i].to)?;
     }
     Ok(pages)
 }
@@ -95,7 +111,7 @@ fn second_one<D: Disk>(
     left: Option<Place>,
     link: Option<u32>,
 ) -> Result<(), StepFault>
-    requires place { IfSome left (λ place. IsSmallPlace place) }
+    requires place { IfSome left (λ place. IsSlabPlace place) }
     requires link { ForSome link (λ other. other < 2 ^ 24) }
     requires pages { ArePages pages.old.items }
     requires first { ArePages first.now }
@@ -106,6 +122,12 @@ fn second_one<D: Disk>(
     ensures still { IsTrue D.tells → OnOk result (StillBeside left
         (over (over (D.seen disk.old.disk) first.now) pages.old.items)
         (over (over (D.seen disk.old.disk) first.now) pages.new.items)) }
+    ensures later { IsTrue D.tells → OnOk result (StillLater
+        (over (over (D.seen disk.old.disk) first.now) pages.old.items)
+        (over (over (D.seen disk.old.disk) first.now) pages.new.items)) }
+    ensures floor { IsTrue D.tells → OnOk result ((bound : ℕ) → stamp ≤ bound
+        → HasFloorUpTo bound (over (over (D.seen disk.old.disk) first.now) pages.old.items)
+        → HasFloorUpTo bound (over (over (D.seen disk.old.disk) first.now) pages.new.items)) }
     ensures pages { ArePages pages.new.items }
     ensures count { length pages.new.items ≤ length pages.old.items + 1 }
     ensures cause { IfErr result (HasStepCause (D.faults disk.old.disk) (D.faults disk.new.disk)) }
@@ -126,7 +148,7 @@ pub fn plan_second<D: Disk>(
 ) -> Result<Vec<Page>, StepFault>
     requires count { length links.now ≡ length moves.now }
     requires places { (i : ℕ) (m : Moved) → slice_get moves.now i ≡ Some m
-        → IfSome m.left (λ place. IsSmallPlace place) }
+        → IfSome m.left (λ place. IsSlabPlace place) }
     requires small { (i : ℕ) (link : Option ℕ) → slice_get links.now i ≡ Some link
         → ForSome link (λ other. other < 2 ^ 24) }
     requires first { ArePages first.now }
@@ -138,6 +160,12 @@ pub fn plan_second<D: Disk>(
     ensures still { IsTrue D.tells → IfOk result (λ pages.
         StillSecond moves.now (over (D.seen disk.old.disk) first.now)
         (over (over (D.seen disk.old.disk) first.now) pages.items)) }
+    ensures later { IsTrue D.tells → IfOk result (λ pages. StillLater
+        (over (D.seen disk.old.disk) first.now)
+        (over (over (D.seen disk.old.disk) first.now) pages.items)) }
+    ensures floor { IsTrue D.tells → IfOk result (λ pages. (bound : ℕ)
+        → StampsUpTo bound moves.now → HasFloorUpTo bound (over (D.seen disk.old.disk) first.now)
+        → HasFloorUpTo bound (over (over (D.seen disk.old.disk) first.now) pages.items)) }
     ensures pages { IfOk result (λ pages. ArePages pages.items) }
     ensures count { IfOk result (λ pages. length pages.items ≤ length moves.now) }
     ensures cause { IfErr result (HasStepCause (D.faults disk.old.disk) (D.faults disk.new.disk)) }

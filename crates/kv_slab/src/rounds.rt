@@ -1,4 +1,4 @@
-ghost use Rattle.std.specs.Prelude.{◌≡◌, ◌+◌, ◌≤◌, OnOk, IsTrue, length};
+ghost use Rattle.std.specs.Prelude.{◌≡◌, ◌+◌, ◌≤◌, [], OnOk, IsTrue, length};
 ghost use Rattle.kv_base.specs.Fault.{HasCause};
 ghost use Rattle.kv_base.specs.Crash.{Only, LeavesOnly};
 ghost use Rattle.kv_slab.specs.Images.{Mix};
@@ -23,6 +23,7 @@ fn write_pages<D: Disk>(disk: &mut Cached<D>, pages: &[Page]) -> Result<(), Fail
         (D.leaves disk.new.disk (D.calls disk.new.disk))) }
     ensures cause { HasCause (D.faults disk.old.disk) (D.faults disk.new.disk) result }
     ensures count { D.calls disk.new.disk ≤ D.calls disk.old.disk + length pages.now + 1 }
+    ensures none { pages.now ≡ [] → disk.new ≡ disk.old }
 {
     if pages.is_empty() {
         return Ok(());
@@ -52,6 +53,7 @@ pub fn carry_out<D: Disk>(
     ensures cause { HasCause (D.faults disk.old.disk) (D.faults disk.new.disk) result }
     ensures count { D.calls disk.new.disk ≤ D.calls disk.old.disk + length first.now
         + length second.now + 2 }
+    ensures none { first.now ≡ [] → second.now ≡ [] → disk.new ≡ disk.old }
 {
     write_pages(disk, first)?;
     write_pages(disk, second)

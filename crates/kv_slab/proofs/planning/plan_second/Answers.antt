@@ -1,16 +1,16 @@
 use Rattle.std.specs.List.{slice_get}
-use Rattle.std.proofs.Common.{◌≡◌, ◌<◌, ◌+◌, ◌∙◌, ℕ, List, Option, None, Some, IsTrue, get_or, length, refl, sym, subst, ap, arith, OnOk, ◌≤◌}
+use Rattle.std.proofs.Common.{◌≡◌, ◌+◌, ◌∙◌, ℕ, List, Option, None, Some, get_or, length, refl, sym, subst, ap, arith, ◌≤◌}
 use Rattle.std.proofs.lemmas.Option.{slice_get-get_or, slice_get_read}
 use Rattle.kv_base.specs.Image.{Image}
 use Rattle.kv_model.specs.Layout.{all_classes}
 use Rattle.kv_model.specs.Reading.{slot_at}
 use Rattle.kv_slab.specs.declared.page.Page.{Page}
-use Rattle.kv_slab.specs.declared.moves.Move.{Move}
 use Rattle.kv_slab.specs.Pages.{over, ArePages}
 use Rattle.kv_slab.specs.Moves.{SecondSoFar, StillSecond, StillBeside, IsVacated}
+use Rattle.kv_slab.specs.Floor.{HasFloorUpTo}
+use Rattle.kv_slab.specs.Images.{StillLater}
 use Rattle.kv_disk.proofs.StepsLemmas.{at_most-none, at_most-then}
 use Rattle.kv_slab.proofs.SoFarLemmas.{second_start, second_more, still_second-more}
-use Rattle.kv_slab.proofs.planning.plan_second.Given.{Over}
 use Rattle.kv_slab.proofs.planning.plan_second.Goals as goal
 
 pub loop-i-init : goal.loop-i-init
@@ -21,7 +21,9 @@ loop-i-init g c =
       second = λ _ _.
           subst (λ (ps : List Page). SecondSoFar c.args.moves.now c.args.links.now 0 (slot_at all_classes base) (slot_at all_classes (over base ps))) (sym c.new-pages.ensures.items)
           (second_start c.args.moves.now c.args.links.now (slot_at all_classes base));
-      still = λ _. subst (λ (ps : List Page). StillSecond c.args.moves.now base (over base ps)) (sym c.new-pages.ensures.items) (λ cl s low none. refl);
+      still = λ _. subst (λ (ps : List Page). StillSecond c.args.moves.now base (over base ps)) (sym c.new-pages.ensures.items) (λ cl s none. record { small = λ _. refl; large = λ _ page below. refl });
+      later = λ _. subst (λ (ps : List Page). StillLater base (over base ps)) (sym c.new-pages.ensures.items) (λ cl p above limit out. refl);
+      floor = λ _ bound up bounded. subst (λ (ps : List Page). HasFloorUpTo bound (over base ps)) (sym c.new-pages.ensures.items) bounded;
       pages = subst (λ (ps : List Page). ArePages ps) (sym c.new-pages.ensures.items) (record { apart = tt; of_slabs = tt });
   count = let e : length c.new-pages.result.items ≡ 0 = ap length c.new-pages.ensures.items in omega arith;
     }
@@ -56,6 +58,12 @@ loop-i-preserved g c =
           c.loop-i.i c.index-moves-i.result at
           (subst (λ (im : Image). StillBeside c.index-moves-i.result.left (over (over im c.args.first.now) c.loop-i.pages.items) (over (over im c.args.first.now) c.second_one.new.pages.items)) (c.loop-i.invariant.reads.reads.seen told) (c.in_ok-second_one.ensures.still told))
           (c.loop-i.invariant.still told);
+      later = λ told cl p above limit out.
+          subst (λ (im : Image). StillLater (over (over im c.args.first.now) c.loop-i.pages.items) (over (over im c.args.first.now) c.second_one.new.pages.items)) (c.loop-i.invariant.reads.reads.seen told) (c.in_ok-second_one.ensures.later told) cl p above limit out
+          ∙ c.loop-i.invariant.later told cl p above limit out;
+      floor = λ told bound up bounded.
+          subst (λ (im : Image). (n : ℕ) → c.index-moves-i.result.stamp ≤ n → HasFloorUpTo n (over (over im c.args.first.now) c.loop-i.pages.items) → HasFloorUpTo n (over (over im c.args.first.now) c.second_one.new.pages.items)) (c.loop-i.invariant.reads.reads.seen told) (c.in_ok-second_one.ensures.floor told)
+          bound (up c.loop-i.i c.index-moves-i.result at) (c.loop-i.invariant.floor told bound up bounded);
       pages = c.second_one.ensures.pages;
       count = omega (arith, c.second_one.ensures.count, c.loop-i.invariant.count);
     }

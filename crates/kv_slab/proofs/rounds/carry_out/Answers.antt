@@ -1,4 +1,4 @@
-use Rattle.std.proofs.Common.{◌∙◌, ◌≡◌, ap, inl, inr, subst, OnOk}
+use Rattle.std.proofs.Common.{◌≡◌, inl, inr, subst, OnOk}
 use Rattle.kv_base.specs.Image.{Image}
 use Rattle.kv_base.proofs.CrashLemmas.{joins}
 use Rattle.kv_slab.specs.Images.{Mix}

@@ -1,4 +1,4 @@
-use Rattle.std.proofs.Common.{◌≡◌, ◌∙◌, ap, sym, arith, inl, inr, List, [], refl, length, get_or, ℕ, ◌<◌}
+use Rattle.std.proofs.Common.{◌≡◌, ◌∙◌, ap, sym, arith, inl, List, [], refl, length, get_or, ℕ, ◌<◌}
 use Rattle.std.proofs.lemmas.List.{take_all}
 use Rattle.kv_base.specs.Image.{Image, with_page}
 use Rattle.kv_base.specs.Crash.{LeavesOnly}

@@ -2,13 +2,12 @@
 use Rattle.std.specs.Prelude.{◌==◌, ◌&&◌, if◌then◌else◌, count_by}
 use Rattle.std.specs.List.{slice_get}
 use Rattle.std.specs.Str.{bytes_eq}
-use Rattle.std.specs.FinMap as finite
-use Rattle.std.specs.FinMap.{get, insert, remove, retain_keys, entries, find, is_sorted, same_map, entries-insert, entries_sorted, get-entries}
-use Rattle.std.specs.FinMap.Entries.{put, where_key, below_all, by_order}
-use Rattle.std.specs.Ordering.{nat_cmp, is_lt, is_eq, eq_by_cmp}
+use Rattle.std.specs.FinMap.{get, insert, remove, entries, find, is_sorted, same_map, entries-insert, entries_sorted, get-entries}
+use Rattle.std.specs.FinMap.Entries.{put, below_all, by_order}
+use Rattle.std.specs.Ordering.{nat_cmp, is_lt, is_eq}
 use Rattle.std.specs.Cmp.Lexicographic.{slice_cmp}
-use Rattle.std.proofs.Common.{◌≡◌, ◌⊎◌, inl, inr, ⊎_elim, ◌∙◌, ℕ, zero, suc, ◌<◌, ◌≤◌, ◌+◌, ◌-◌, T, cond, eqb, Bool, true, false, not, List, [], ◌∷◌, ◌++◌, length, Option, None, Some, Ordering, Less, Equal, Greater, refl, sym, ap, subst, arith, length-append}
-use Rattle.std.proofs.lemmas.Bool.{cases_eq, cases_Bool, cond-true, cond-false, eq-eqb, ne_eqb}
+use Rattle.std.proofs.Common.{◌≡◌, inl, inr, ⊎_elim, ◌∙◌, ℕ, suc, ◌+◌, T, cond, Bool, true, false, List, [], ◌∷◌, length, Option, None, Some, Ordering, Less, Equal, Greater, refl, sym, ap, subst, arith, length-append}
+use Rattle.std.proofs.lemmas.Bool.{cases_eq, ne_eqb}
 use Rattle.std.proofs.lemmas.Cmp.{nat_list_cmp_total}
 use Rattle.std.proofs.lemmas.List.Sums.{sum_by-cons}
 use Rattle.kv_base.specs.declared.place.Place.{Place}
@@ -21,9 +20,8 @@ use Rattle.kv_model.specs.Slots.{is_class}
 use Rattle.kv_slab.specs.declared.change.Change.{Change}
 use Rattle.kv_slab.specs.declared.moves.Move.{Move}
 use Rattle.kv_slab.specs.Memory.{items_in}
-use Rattle.kv_slab.specs.Moves.{IsPair, AreDistinct, AreAllMoves, CanHold}
-use Rattle.kv_slab.specs.Rooms.{slot_class, item_class, new_class, left_for, left_by, left_slots, slots_of, needed}
-use Rattle.kv_slab.specs.Rounds.{Index}
+use Rattle.kv_slab.specs.Moves.{AreDistinct, AreAllMoves, CanHold}
+use Rattle.kv_slab.specs.Rooms.{slot_class, item_class, left_for, left_by, left_slots, slots_of, needed}
 use Rattle.kv_slab.specs.Settled.{entry_at, moved_by}
 use Rattle.kv_slab.proofs.SettleLemmas.{set-moved, remove-moved}
 use Rattle.kv_slab.proofs.StepLemmas.{one_key as key_or_not, get_some}

@@ -1,18 +1,17 @@
 -- The lengths of the lists and the ends, on every disk.
-use Rattle.std.specs.Prelude.{◌==◌, if◌then◌else◌}
+use Rattle.std.specs.Prelude.{if◌then◌else◌}
 use Rattle.std.specs.List.{slice_get}
 use Rattle.std.specs.FinMap as finite
-use Rattle.std.proofs.Common.{◌≡◌, ◌⊎◌, inl, inr, ◌∙◌, ℕ, zero, suc, ◌+◌, ◌-◌, ◌<◌, ◌≤◌, List, [], ◌∷◌, ◌++◌, length, take, set, Option, None, Some, Result, Ok, Err, OnOk, refl, sym, ap, subst, arith, length-append}
+use Rattle.std.proofs.Common.{◌≡◌, inl, inr, ◌∙◌, ℕ, zero, suc, ◌+◌, List, [], ◌∷◌, ◌++◌, length, take, set, Some, refl, sym, ap, subst, arith, length-append}
 use Rattle.std.proofs.lemmas.Bool.{cases_eq, ne_eqb, eq-eqb}
 use Rattle.std.proofs.lemmas.Option.{slice_get_within}
 use Rattle.kv_base.specs.declared.place.Place.{Place}
 use Rattle.kv_index.specs.Entries.{Entries}
-use Rattle.kv_model.specs.Slots.{is_class}
 use Rattle.kv_slab.specs.declared.change.Change.{Change}
 use Rattle.kv_slab.specs.declared.moves.Move.{Move}
 use Rattle.kv_slab.specs.declared.room.Room.{Room}
-use Rattle.kv_slab.specs.Assigned.{AreEnds, slots_left}
-use Rattle.kv_slab.specs.Memory.{HasLength, HaveLengths, AreFilled, items_in, new_in, left_in}
+use Rattle.kv_slab.specs.Assigned.{slots_left}
+use Rattle.kv_slab.specs.Memory.{HasLength, HaveLengths, AreFilled, new_in, left_in}
 use Rattle.kv_slab.specs.Moves.{IsPair, AreDistinct, AreAllMoves}
 use Rattle.kv_slab.proofs.TakeLemmas.{push_get}
 use Rattle.kv_slab.specs.Rooms.{needed, new_class, left_by, left_slots, slots_of}

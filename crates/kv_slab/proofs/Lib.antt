@@ -21,3 +21,4 @@ pub mod WholeLemmas
 pub mod CountLemmas
 pub mod LengthLemmas
 pub mod HandOver
+pub mod KeptLemmas

@@ -1,6 +1,6 @@
 -- The free slots and the ends, as one list and as two.
-use Rattle.std.proofs.Common.{◌≡◌, ℕ, zero, suc, ◌+◌, ◌<◌, List, [], ◌∷◌, ◌++◌, length, take, map}
-use Rattle.std.proofs.Common.{Some, get_or, Result, Ok, Err, OnOk, IsOk, refl, sym, ap, ◌∙◌, arith}
+use Rattle.std.proofs.Common.{◌≡◌, ℕ, zero, suc, ◌+◌, List, [], ◌∷◌, ◌++◌, length, take, map}
+use Rattle.std.proofs.Common.{Some, Result, Ok, Err, OnOk, IsOk, refl, ap, ◌∙◌, arith}
 use Rattle.std.specs.List.{slice_get}
 use Rattle.kv_free.specs.FreeList.{Tail}
 use Rattle.kv_slab.specs.declared.room.Room.{Room}

@@ -1,14 +1,14 @@
 -- Images inside a round, of which each page is as before it or as behind it.
 use Rattle.std.specs.List.{slice_get}
-use Rattle.std.proofs.Common.{◌≡◌, ◌⊎◌, inl, inr, ◌∙◌, ℕ, zero, suc, ◌+◌, ◌-◌, ◌*◌, ◌%◌, ◌<◌, ◌≤◌}
-use Rattle.std.proofs.Common.{List, [], ◌∷◌, length, take, drop, Option, None, Some, refl, sym, ap, subst, arith}
-use Rattle.std.proofs.lemmas.Bool.{cases_lt, cases_eq}
+use Rattle.std.proofs.Common.{◌≡◌, ◌⊎◌, inl, inr, ◌∙◌, ℕ, zero, suc, ◌+◌, ◌*◌, ◌%◌, ◌<◌, ◌≤◌}
+use Rattle.std.proofs.Common.{List, [], ◌∷◌, length, take, drop, Option, None, Some, refl, sym, ap, arith}
+use Rattle.std.proofs.lemmas.Bool.{cases_eq}
 use Rattle.std.proofs.lemmas.Nat.{mod-mul-add}
-use Rattle.kv_base.specs.Image.{Image, zero_page}
+use Rattle.kv_base.specs.Image.{Image}
 use Rattle.kv_base.specs.declared.place.Place.{Place}
 use Rattle.kv_base.proofs.ImageLemmas.{one_place}
 use Rattle.kv_model.specs.Layout.{all_classes, slot_size, pages_in_slot}
-use Rattle.kv_model.specs.Reading.{page_of, offset_of, small_slot, slot_at}
+use Rattle.kv_model.specs.Reading.{page_of, offset_of, slot_at}
 use Rattle.kv_model.specs.Slots.{read_small}
 use Rattle.kv_slab.specs.Images.{Mix, SameSlot, IsZeroSlot, StillLater}
 use Rattle.kv_slab.specs.Rounds.{IsPlace}

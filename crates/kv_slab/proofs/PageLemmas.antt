@@ -1,14 +1,14 @@
 -- Pages over an image.
 use Rattle.std.specs.Prelude.{if◌then◌else◌, ◌==◌, ◌&&◌, Result, OnOk, Ok, Err}
-use Rattle.std.proofs.Common.{◌≡◌, ◌⊎◌, inl, inr, ⊎_elim, ℕ, zero, suc, ◌<◌, ◌+◌, ◌/◌, ◌*◌, ◌^◌, Bool, true, false, List, [], ◌∷◌, ◌++◌, length, get_or, set, take, not, cond, one-add, position, Option, None, Some, ◌≤◌, IsTrue, MatchOption, slice_index_or, slice_set, ◌≢◌, refl, sym, ap, ◌∙◌, subst, arith}
+use Rattle.std.proofs.Common.{◌≡◌, ◌⊎◌, inr, ⊎_elim, ℕ, zero, suc, ◌<◌, ◌+◌, ◌/◌, ◌*◌, ◌^◌, Bool, true, false, List, [], ◌∷◌, ◌++◌, length, get_or, set, take, position, Option, None, Some, ◌≤◌, MatchOption, slice_index_or, refl, sym, ap, ◌∙◌, subst, arith}
 use Rattle.std.proofs.lemmas.List.{take_more}
-use Rattle.std.proofs.lemmas.Bool.{false≢true, eq-eqb, cond-true, le-leb, cases_eq}
+use Rattle.std.proofs.lemmas.Bool.{false≢true, eq-eqb}
 use Rattle.std.proofs.lemmas.Bool.Decides.{nat_tests}
 use Rattle.std.proofs.lemmas.List.Quantifiers.{position-Some}
 use Rattle.std.specs.List.{position_or_len}
 use Rattle.kv_base.specs.Image.{Image, with_page}
 use Rattle.kv_base.proofs.ImageLemmas.{one_place, with_page-at, with_page-other, same_image}
-use Rattle.kv_model.specs.Layout.{slot_size, is_small, slots_in_page, pages_in_slot}
+use Rattle.kv_model.specs.Layout.{slot_size, pages_in_slot}
 use Rattle.kv_model.specs.Reading.{page_of, offset_of}
 use Rattle.kv_model.specs.Recovery.{most_pages}
 use Rattle.kv_slot.specs.Overwrite.{overwritten}

@@ -1,11 +1,10 @@
 -- What a reading gives of each key while steps are carried out.
-use Rattle.std.proofs.Common.{◌≡◌, ◌⊎◌, inl, inr, ⊎_elim, ℕ, ◌<◌, ◌≤◌, List, Option, None, Some, refl, sym, ap, ◌∙◌, subst, arith}
+use Rattle.std.proofs.Common.{◌≡◌, ◌⊎◌, inl, inr, ⊎_elim, ℕ, ◌<◌, List, Option, None, Some, refl, sym, ap, ◌∙◌, subst, arith}
 use Rattle.kv_base.proofs.ImageLemmas.{one_place}
-use Rattle.kv_model.specs.Slots.{Slot, Item, Never, Tombstone, Bad, Torn}
+use Rattle.kv_model.specs.Slots.{Slot, Item}
 use Rattle.kv_model.specs.Reading.{Reading, Copy}
-use Rattle.kv_slab.specs.Given.{Answer, GivesItem, IsBest, IsItemOf}
-use Rattle.kv_index.specs.declared.entry.Entry.{Entry}
-use Rattle.kv_slab.specs.Rounds.{At, To, Step, Index, Steps, IsPlace, Holds, item_of, answer_of, written_of, after_step, Fits, IsNew, IsNoItem, IsUnused, InFirst, FirstDone, Leaves, IsLeft, InSecond, SecondDone, put_at, moved, OldOrNew}
+use Rattle.kv_slab.specs.Given.{GivesItem, IsItemOf}
+use Rattle.kv_slab.specs.Rounds.{At, To, Step, Index, Steps, IsPlace, Holds, item_of, answer_of, written_of, after_step, Fits, IsNew, IsNoItem, IsUnused, InFirst, FirstDone, IsLeft, InSecond, SecondDone, put_at, moved, OldOrNew}
 
 -- a place as an entry tells it
 abbrev pub entry : ℕ → ℕ → ℕ → At

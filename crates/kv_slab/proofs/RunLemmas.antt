@@ -1,5 +1,5 @@
 -- Runs of calls of a disk.
-use Rattle.std.proofs.Common.{ℕ, List}
+use Rattle.std.proofs.Common.{ℕ}
 use Rattle.kv_base.specs.Image.{Image}
 use Rattle.kv_base.specs.Crash.{Choices, MayLeave, LeavesOnly}
 

@@ -1,28 +1,28 @@
 -- What one write sets: its slot, and nothing else.
-use Rattle.std.proofs.Common.{◌≡◌, ◌⊎◌, inl, inr, ℕ, zero, suc, ◌+◌, ◌-◌, ◌*◌, ◌/◌, ◌%◌, ◌^◌, ◌<◌, ◌≤◌}
-use Rattle.std.proofs.Common.{Bool, true, false, cond, List, [], ◌∷◌, ◌++◌, length, take, drop, map}
+use Rattle.std.proofs.Common.{◌≡◌, inl, inr, ℕ, zero, suc, ◌+◌, ◌-◌, ◌*◌, ◌/◌, ◌%◌, ◌^◌, ◌<◌, ◌≤◌}
+use Rattle.std.proofs.Common.{true, false, cond, List, [], ◌∷◌, ◌++◌, length, take, drop, map}
 use Rattle.std.proofs.Common.{Option, Some, IfSome, refl, sym, ap, ◌∙◌, subst, arith}
 use Rattle.std.proofs.lemmas.Bool.{cases_lt, cases_eq, cond-true, cond-false, le-leb, lt-leb}
 use Rattle.std.proofs.lemmas.Nat.{pow_pos, mod-mul-add}
 use Rattle.std.proofs.Math.Nat.{mul-le-mul_right}
 use Rattle.std.specs.List.{AllByRecursion, range_with_len}
 use Rattle.kv_base.specs.Image.{Image, with_page}
-use Rattle.kv_base.proofs.ImageLemmas.{one_place, with_page-at, with_page-here, with_page-other}
+use Rattle.kv_base.proofs.ImageLemmas.{one_place, with_page-here, with_page-other}
 use Rattle.kv_model.specs.Layout.{all_classes, class_of, is_small, slot_size, pages_in_slot}
-use Rattle.kv_model.specs.Reading.{Reading, page_of, offset_of, small_slot, large_slot, slot_at, heads_at}
+use Rattle.kv_model.specs.Reading.{page_of, offset_of, small_slot, large_slot, slot_at, heads_at}
 use Rattle.kv_model.specs.Reading.{has_class}
-use Rattle.kv_model.specs.SlotBytes.{item_bytes, tombstone_bytes, large_page, large_pages}
+use Rattle.kv_model.specs.SlotBytes.{tombstone_bytes, large_page, large_pages}
 use Rattle.kv_model.specs.Slots.{Slot, Never, Item, Tombstone, read_small, read_large, stamp_field}
 use Rattle.kv_slot.specs.Overwrite.{overwritten}
 use Rattle.kv_slot.proofs.AgainLemmas.{large_tombstones_again}
 use Rattle.kv_slot.proofs.LargeAgainLemmas.{large_items_again}
 use Rattle.kv_slot.proofs.PlaceLemmas.{begin_with_stamp}
 use Rattle.kv_slab.specs.Rounds.{IsPlace}
-use Rattle.kv_slab.specs.Images.{Sets, ReadsSet, SameSlot, IsSlotSet, StillLater}
+use Rattle.kv_slab.specs.Images.{Sets, SameSlot, IsSlotSet, StillLater}
 use Rattle.kv_slab.specs.Floor.{HasFloorUpTo}
 use Rattle.kv_slab.specs.Large.{HaveStamp}
 use Rattle.kv_slab.specs.Pages.{with_pages}
-use Rattle.kv_slab.proofs.SlotLemmas.{has_class-some, slot_at-small, reads_set}
+use Rattle.kv_slab.proofs.SlotLemmas.{has_class-some, reads_set}
 use Rattle.kv_slab.proofs.LargeTearing.{slot_at-large}
 
 -- two functions that agree on a run of numbers

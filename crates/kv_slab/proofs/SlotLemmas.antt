@@ -1,19 +1,17 @@
 -- One slot of a page is written, and images are mixed page by page.
-use Rattle.std.proofs.Common.{◌≡◌, ◌⊎◌, inl, inr, ℕ, zero, suc, ◌+◌, ◌-◌, ◌*◌, ◌/◌, ◌%◌, ◌^◌, ◌<◌, ◌≤◌}
-use Rattle.std.proofs.Common.{Bool, true, false, cond, List, [], ◌∷◌, length, take, drop, map, refl, sym, ap, ◌∙◌, subst, arith}
-use Rattle.std.proofs.lemmas.Bool.{cases_lt, cases_eq, cond-true, cond-false, le-leb, lt-leb, false≢true}
+use Rattle.std.proofs.Common.{◌≡◌, ◌⊎◌, inl, inr, ℕ, zero, suc, ◌+◌, ◌-◌, ◌*◌, ◌/◌, ◌%◌, ◌^◌, ◌≤◌}
+use Rattle.std.proofs.Common.{true, cond, List, length, take, drop, map, refl, sym, ap, ◌∙◌, arith}
+use Rattle.std.proofs.lemmas.Bool.{cases_lt, cases_eq, cond-true, le-leb}
 use Rattle.std.proofs.lemmas.Nat.{pow-add, pow_pos}
 use Rattle.std.proofs.Math.Nat.{div-add-mod, mul-le-mul_right, mod-lt}
 use Rattle.std.specs.List.{range_with_len}
 use Rattle.kv_base.specs.Image.{Image, with_page}
 use Rattle.kv_base.proofs.ImageLemmas.{one_place, with_page-at, with_page-other}
 use Rattle.kv_model.specs.Layout.{all_classes, is_small, slot_size, slots_in_page, pages_in_slot}
-use Rattle.kv_model.specs.Reading.{Reading, page_of, offset_of, small_slot, slot_at, has_class}
+use Rattle.kv_model.specs.Reading.{page_of, offset_of, small_slot, slot_at, has_class}
 use Rattle.kv_model.specs.Slots.{Slot, Never, read_small, read_large}
 use Rattle.kv_slot.specs.Overwrite.{overwritten}
-use Rattle.kv_slot.specs.Laws.{IsPutInPlace}
 use Rattle.kv_slot.proofs.PlaceLemmas.{stay_in_place}
-use Rattle.kv_slab.specs.Rounds.{IsPlace}
 use Rattle.kv_slab.specs.Images.{Sets, ReadsSet, Mix}
 
 -- the classes 1 to 11 exist

@@ -1,14 +1,13 @@
 -- One change more in a round.
 use Rattle.std.specs.List.{slice_get}
-use Rattle.std.proofs.Common.{◌≡◌, ◌⊎◌, inl, inr, ⊎_elim, ℕ, zero, suc, ◌<◌, ◌≤◌, ◌+◌, List, [], ◌∷◌, length, Option, None, Some, refl, sym, ap, ◌∙◌, subst, arith}
+use Rattle.std.proofs.Common.{◌≡◌, ◌⊎◌, inl, inr, ⊎_elim, ℕ, ◌<◌, ◌≤◌, ◌+◌, List, Option, None, Some, refl, sym, ap, ◌∙◌, subst, arith}
 use Rattle.std.proofs.lemmas.Bool.{cases_lt}
 use Rattle.kv_base.specs.Image.{Image}
 use Rattle.kv_base.specs.declared.place.Place.{Place}
 use Rattle.kv_base.proofs.ImageLemmas.{one_place}
 use Rattle.kv_model.specs.Slots.{Slot, Item, Tombstone}
 use Rattle.kv_model.specs.Reading.{Reading, large_slot}
-use Rattle.kv_slab.specs.Rounds.{At, To, IsPlace, IsNoItem}
-use Rattle.kv_slab.specs.Images.{Sets, ReadsSet}
+use Rattle.kv_slab.specs.Rounds.{To, IsPlace}
 use Rattle.kv_slab.specs.declared.change.Change.{Change}
 use Rattle.kv_slab.specs.declared.moves.Move.{Move}
 use Rattle.kv_slab.specs.Moves.{to_of, IsPair, IsNewAt, FirstSoFar, IsLeftAt, SecondSoFar, TargetsApart, LeftApart, StillFirst, StillSecond, StillBeside, AreWhole, IsWhole, IsWritten, IsVacated}

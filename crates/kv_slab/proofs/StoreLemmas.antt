@@ -1,21 +1,20 @@
 -- A store while its plan is carried out, and afterwards.
 use Rattle.std.specs.List.{slice_get}
 use Rattle.std.specs.Str.{bytes_eq}
-use Rattle.std.proofs.Common.{◌≡◌, ◌⊎◌, inl, inr, ◌∙◌, ℕ, zero, suc, ◌<◌, ◌≤◌, ◌+◌, ◌-◌, replicate, Bool, true, false, List, [], ◌∷◌, ◌++◌, length, take, Option, None, Some, refl, sym, ap, subst, arith, IsTrue, cond, eqb, map}
+use Rattle.std.proofs.Common.{◌≡◌, ◌⊎◌, inl, inr, ◌∙◌, ℕ, suc, ◌<◌, ◌≤◌, Bool, true, false, List, [], ◌∷◌, Option, None, Some, refl, sym, ap, subst, arith, IsTrue, cond, eqb, map}
 use Rattle.std.specs.List.{AllByRecursion}
 use Rattle.std.proofs.lemmas.Bool.{cases_lt, cases_eq, cond-false, lt-leb, and_right}
 use Rattle.std.proofs.lemmas.Option.{slice_get_within}
-use Rattle.kv_base.specs.Image.{Image, zero_page}
+use Rattle.kv_base.specs.Image.{Image}
 use Rattle.kv_base.specs.Partition.{owner_of}
 use Rattle.kv_base.specs.declared.place.Place.{Place}
 use Rattle.kv_index.specs.declared.entry.Entry.{Entry}
-use Rattle.kv_model.specs.Head.{head_page}
 use Rattle.kv_model.specs.Layout.{all_classes}
-use Rattle.kv_model.specs.Slots.{Slot, Item, Never, Tombstone, stamp_field}
-use Rattle.kv_model.specs.Reading.{Reading, Copy, Gives, IsFound, slot_at, large_slot}
+use Rattle.kv_model.specs.Slots.{Slot, Item, Never, stamp_field}
+use Rattle.kv_model.specs.Reading.{Reading, Gives, slot_at, large_slot}
 use Rattle.kv_model.specs.Recovery.{most_pages}
 use Rattle.kv_slab.specs.Given.{Answer, GivesItem}
-use Rattle.kv_slab.specs.Rounds.{At, To, Step, Index, Steps, IsPlace, Holds, Fits, InFirst, InSecond, FirstDone, SecondDone, OldOrNew, IsNew, IsUnused, IsLeft, answer_of, item_of, moved, after_step}
+use Rattle.kv_slab.specs.Rounds.{At, To, Index, IsPlace, Holds, Fits, InFirst, InSecond, FirstDone, SecondDone, OldOrNew, IsNew, IsUnused, IsLeft, answer_of, item_of, moved, after_step}
 use Rattle.kv_slab.specs.Images.{Mix, IsZeroSlot}
 use Rattle.kv_slab.specs.Floor.{HasFloorBelow}
 use Rattle.kv_slab.specs.Large.{AreBelow}
@@ -27,8 +26,8 @@ use Rattle.kv_slab.specs.declared.change.Change.{Change}
 use Rattle.kv_slab.specs.declared.moves.Move.{Move}
 use Rattle.kv_slab.specs.declared.page.Page.{Page}
 use Rattle.kv_slab.specs.declared.room.Room.{Room}
-use Rattle.kv_slab.specs.Moves.{IsPair, AreDistinct, AreMoves, AreAllMoves, to_of, step_of, steps_of, answer_after, ArePlaces, IsSlabPlace, CanHold}
-use Rattle.kv_slab.specs.Rooms.{Free, Rooms, IsListed, ArePlaced, AreLinked, taken, needed, rooms_after, item_class, left_for}
+use Rattle.kv_slab.specs.Moves.{AreDistinct, AreMoves, AreAllMoves, step_of, steps_of, answer_after, ArePlaces, IsSlabPlace, CanHold}
+use Rattle.kv_slab.specs.Rooms.{Rooms, rooms_after, item_class, left_for}
 use Rattle.kv_model.specs.Layout.{is_small}
 use Rattle.kv_slab.specs.Settled.{moved_by, entry_at}
 use Rattle.kv_disk.specs.declared.disk.Disk.{Ghosts}

@@ -1,5 +1,5 @@
 -- How many calls of a disk a read takes.
-use Rattle.std.specs.Prelude.{ℕ, ◌⊎◌, ◌≡◌, List, Option, None, Some, if◌then◌else◌}
+use Rattle.std.specs.Prelude.{ℕ, ◌⊎◌, List, Option, None, Some, if◌then◌else◌}
 use Rattle.kv_disk.specs.declared.disk.Disk.{Ghosts}
 use Rattle.kv_disk.specs.Steps.{ReadsAtMost}
 use Rattle.kv_index.specs.declared.entry.Entry.{Entry}

@@ -12,7 +12,7 @@ use Rattle.kv_index.specs.declared.entry.Entry.{Entry}
 use Rattle.kv_index.specs.Entries.{Entries, HasNoneFrom, IsNext}
 use Rattle.kv_model.specs.Head.{head_page}
 use Rattle.kv_model.specs.Layout.{all_classes}
-use Rattle.kv_model.specs.Reading.{Gives, slot_at}
+use Rattle.kv_model.specs.Reading.{Copy, Gives, IsFound, slot_at}
 use Rattle.kv_model.specs.Recovery.{most_pages}
 use Rattle.kv_model.specs.Slots.{Never, Item}
 use Rattle.kv_slab.specs.Given.{Answer}
@@ -82,6 +82,13 @@ abbrev pub OldOrNewMap : (List ℕ → Answer) → List Change → ℕ → ℕ �
 OldOrNewMap map changes worker workers image = (k : List ℕ)
     → Gives (slot_at all_classes image) worker workers k (map k)
     ⊎ Gives (slot_at all_classes image) worker workers k (answer_after changes k (map k))
+
+-- what the image keeps for each key is what the map has, and each key is found at one place at most
+pub record KeepsMap (image : Image) (map : List ℕ → Answer) (worker workers : ℕ) : Type 0 where
+  pub gives : (k : List ℕ) → Gives (slot_at all_classes image) worker workers k (map k)
+  pub single : (k : List ℕ) (a b : Copy) → IsFound (slot_at all_classes image) worker workers k a
+      → IsFound (slot_at all_classes image) worker workers k b
+      → (a.class ≡ b.class) × (a.slot ≡ b.slot)
 
 -- this is the key's item
 abbrev pub IsAnswer : Option ItemOf → List ℕ → Answer → Type 0

@@ -4,20 +4,20 @@ ghost use Rattle.std.specs.FinMap as finite;
 ghost use Rattle.kv_base.specs.Fault.{HasCause};
 ghost use Rattle.kv_base.specs.Image.{Image};
 ghost use Rattle.kv_base.specs.Limits.{AreLimits};
-ghost use Rattle.kv_base.specs.Crash.{LeavesOnly, MayLeave};
+ghost use Rattle.kv_base.specs.Crash.{LeavesOnly, MayLeave, Only};
 ghost use Rattle.kv_disk.specs.Steps.{ReadsAtMost};
 ghost use Rattle.kv_index.specs.Entries.{HasNoneFrom};
 ghost use Rattle.kv_slab.specs.declared.change.Change.{Change as Changed};
 ghost use Rattle.kv_slab.specs.Moves.{AreUpTo, answer_after};
 ghost use Rattle.kv_slab.specs.Fault.{HasStepCause};
-ghost use Rattle.kv_slab.specs.Memory.{AreCounted, HaveLengths, items_in, rooms_of};
+ghost use Rattle.kv_slab.specs.Memory.{AreCounted, AreFilled, HaveLengths, items_in, rooms_of};
 ghost use Rattle.kv_slab.specs.Floor.{HasFloorUpTo};
 ghost use Rattle.kv_slab.specs.Settled.{HasEntryAfter};
-ghost use Rattle.kv_slab.specs.Rooms.{Rooms, rooms_after, needed, left_slots};
+ghost use Rattle.kv_slab.specs.Rooms.{Rooms, AreRooms, rooms_after, needed, left_slots};
 ghost use Rattle.kv_slab.specs.Counts.{reads_for, NextReads};
 ghost use Rattle.kv_slab.specs.Plans.{HasPlan, MayPlan};
 ghost use Rattle.kv_slab.specs.View.{IsOpen, IsOfWorker, IsAnswer, IsNextItem, HasRooms};
-ghost use Rattle.kv_slab.specs.View.{OldOrNewMap, store_map};
+ghost use Rattle.kv_slab.specs.View.{OldOrNewMap, KeepsMap, Stands, store_map};
 
 use crate::change::{Change, Item};
 use crate::fault::{StepFault, WriteFault};
@@ -128,9 +128,23 @@ impl<D: Disk, I: Index> Slabs<D, I> {
         }
     }
 
-    /// Whether a write or a sync has failed.
+    /// Whether a write or a sync has failed. While none has, nothing is pending, and the image keeps
+    /// the map.
     pub fn closed(&self) -> bool
-        ensures { result ≡ self.now.closed }
+        ensures value { result ≡ self.now.closed }
+        ensures settled { result ≡ false → Only (D.seen self.now.disk.disk)
+            (D.leaves self.now.disk.disk (D.calls self.now.disk.disk)) }
+        ensures stands { result ≡ false → IsTrue D.tells → (rooms : Rooms)
+            × AreRooms self.now.rooms rooms
+            × Stands (D.seen self.now.disk.disk) (finite.get (I.entries self.now.index)) rooms
+            self.now.worker self.now.workers }
+        ensures keeps { result ≡ false → IsTrue D.tells → KeepsMap (D.seen self.now.disk.disk)
+            (store_map ⟦<D as Disk>⟧ ⟦<I as Index>⟧ self.now) self.now.worker self.now.workers }
+        ensures of_worker { (image : Image)
+            → MayLeave (D.leaves self.now.disk.disk (D.calls self.now.disk.disk)) image
+            → IsOfWorker self.now.worker self.now.workers image }
+        ensures filled { AreFilled (I.entries self.now.index) self.now.rooms }
+        ensures limits { AreLimits self.now.limits }
     {
         self.closed
     }
@@ -160,6 +174,9 @@ impl<D: Disk, I: Index> Slabs<D, I> {
             (reads_for (finite.get (I.entries self.old.index) key.now))
             self.old.disk.disk self.new.disk.disk }
         ensures rest { self.new ≡ record self.old { disk = self.new.disk } }
+        ensures plan { (changes : List Changed)
+            → HasPlan ⟦<D as Disk>⟧ ⟦<I as Index>⟧ self.old changes
+            → HasPlan ⟦<D as Disk>⟧ ⟦<I as Index>⟧ self.new changes }
         ensures cause { IfErr result (HasStepCause (D.faults self.old.disk.disk)
             (D.faults self.new.disk.disk)) }
     {
@@ -185,6 +202,9 @@ impl<D: Disk, I: Index> Slabs<D, I> {
         ensures reads { NextReads ⟦<D as Disk>⟧ (I.entries self.old.index) key.now
             self.old.disk.disk self.new.disk.disk }
         ensures rest { self.new ≡ record self.old { disk = self.new.disk } }
+        ensures plan { (changes : List Changed)
+            → HasPlan ⟦<D as Disk>⟧ ⟦<I as Index>⟧ self.old changes
+            → HasPlan ⟦<D as Disk>⟧ ⟦<I as Index>⟧ self.new changes }
         ensures cause { IfErr result (HasStepCause (D.faults self.old.disk.disk)
             (D.faults self.new.disk.disk)) }
     {

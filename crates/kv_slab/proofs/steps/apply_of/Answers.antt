@@ -1,4 +1,4 @@
-use Rattle.std.proofs.Common.{◌≤◌, ◌+◌, ◌*◌, length, arith}
+use Rattle.std.proofs.Common.{arith}
 use Rattle.std.proofs.Common.{List, sym, subst}
 use Rattle.kv_index.specs.Entries.{Entries}
 use Rattle.kv_slab.specs.Memory.{AreFilled, rooms_of}

@@ -1,4 +1,4 @@
-use Rattle.std.proofs.Common.{◌≡◌, ◌≤◌, ◌∙◌, ℕ, List, Some, sym, subst, ap, IsTrue, refl, arith}
+use Rattle.std.proofs.Common.{◌≡◌, ◌∙◌, ℕ, List, sym, subst, ap, IsTrue}
 use Rattle.std.specs.FinMap as finite
 use Rattle.kv_base.specs.Image.{Image}
 use Rattle.kv_base.specs.Crash.{LeavesOnly}

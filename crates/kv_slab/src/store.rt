@@ -10,7 +10,7 @@ ghost use Rattle.kv_slab.specs.Memory.{AreFilled, HaveLengths, rooms_of};
 ghost use Rattle.kv_slab.specs.Moves.{ArePlaces, AreDistinct, AllFit, AreAllMoves, AreUpTo, answer_after};
 ghost use Rattle.kv_slab.specs.Floor.{HasFloorUpTo};
 ghost use Rattle.kv_slab.specs.Settled.{HasEntryAfter};
-ghost use Rattle.kv_slab.specs.Pages.{ArePages};
+ghost use Rattle.kv_slab.specs.Pages.{ArePages, IsOrder};
 ghost use Rattle.kv_disk.specs.Steps.{ReadsAtMost};
 ghost use Rattle.kv_slab.specs.Fault.{HasStepCause};
 ghost use Rattle.kv_slab.specs.Rooms.{Rooms, AreRooms, ArePlaced, AreLinked, rooms_after, needed, left_slots};
@@ -24,6 +24,7 @@ use crate::change::Change;
 use crate::fault::{StepFault, WriteFault};
 use crate::leave::leave;
 use crate::lists::{copy_rooms, split_rooms};
+use crate::order::order_of;
 use crate::plan::Plan;
 use crate::planning::{plan_first, plan_second};
 use crate::parts::{EndList, StackList};
@@ -70,6 +71,8 @@ pub fn make_plan<D: Disk, I: Index>(
         + length plan.moves.items < 2 ^ 32) }
     ensures first { IfOk result (λ plan. ArePages plan.first.items) }
     ensures second { IfOk result (λ plan. ArePages plan.second.items) }
+    ensures orders { IfOk result (λ plan. IsOrder plan.first.items plan.first_order.items
+        × IsOrder plan.second.items plan.second_order.items) }
     ensures counts { IfOk result (λ plan. (length plan.first.items ≤ 16 * length changes.now)
         × (length plan.second.items ≤ length changes.now)) }
     ensures sizes { IfOk result (λ plan. (length plan.stacks.items ≡ 12)
@@ -97,11 +100,15 @@ pub fn make_plan<D: Disk, I: Index>(
     let links = leave(alloc, &mut now, &moves)?;
     let first = plan_first(alloc, disk, changes, &moves)?;
     let second = plan_second(alloc, disk, &first, &moves, &links)?;
+    let first_order = order_of(alloc, &first)?;
+    let second_order = order_of(alloc, &second)?;
     let (stacks, ends) = split_rooms(alloc, &now)?;
     Ok(Plan {
         moves,
         first,
+        first_order,
         second,
+        second_order,
         stacks,
         ends,
     })
@@ -194,11 +201,13 @@ pub fn carry<D: Disk, I: Index>(
     let Plan {
         moves,
         first,
+        first_order,
         second,
+        second_order,
         stacks: now_stacks,
         ends: now_ends,
     } = plan;
-    match carry_out(disk, &first, &second) {
+    match carry_out(disk, &first, &first_order, &second, &second_order) {
         Ok(()) => {
             *stacks = now_stacks;
             *ends = now_ends;

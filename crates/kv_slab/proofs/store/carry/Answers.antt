@@ -26,12 +26,12 @@ use Rattle.kv_slab.proofs.store.carry.Goals.{After-carry_out}
 
 -- the images of the rounds, whatever a crash may leave at a moment
 rounds : (g : Over) (c : After-carry_out g) (t : ℕ) (image : Image) → g.D.Disk.leaves c.carry_out.new.disk.disk t 0 0 (image 0 0)
-    → InRounds (g.D.Disk.seen c.args.disk.now.disk) c.deref.result.now c.deref-2.result.now image
+    → InRounds (g.D.Disk.seen c.args.disk.now.disk) c.deref.result.now c.deref-3.result.now image
     → IsTrue g.D.Disk.tells × InRounds (g.D.Disk.seen c.args.disk.now.disk) c.args.plan.first.items c.args.plan.second.items image
 rounds g c t image may h =
     ((g.met.D.Disk.told c.carry_out.new.disk.disk t 0 0 (image 0 0) may).0,
       subst (λ (ps : List Page). InRounds (g.D.Disk.seen c.args.disk.now.disk) ps c.args.plan.second.items image) c.deref.ensures.value
-      (subst (λ (ps : List Page). InRounds (g.D.Disk.seen c.args.disk.now.disk) c.deref.result.now ps image) c.deref-2.ensures.value h))
+      (subst (λ (ps : List Page). InRounds (g.D.Disk.seen c.args.disk.now.disk) c.deref.result.now ps image) c.deref-3.ensures.value h))
 
 moments : (g : Over) (c : After-carry_out g) (limit worker workers : ℕ) (changes : List Change)
     → IsOpen g.D.Disk.tells (g.D.Disk.seen c.args.disk.now.disk) (g.D.Disk.leaves c.args.disk.now.disk (g.D.Disk.calls c.args.disk.now.disk)) (finite.get (g.I.Index.entries c.args.index.now)) (rooms_of c.args.stacks.now.items c.args.ends.now.items) worker workers
@@ -72,8 +72,8 @@ returns-in-Err-clause-of_worker g c = of_worker_moments g (goal.at.returns-in-Er
 seen_now : (g : Over) (c : goal.After-drop-first g) → IsTrue g.D.Disk.tells → g.D.Disk.seen c.carry_out.new.disk.disk ≡ over (over (g.D.Disk.seen c.args.disk.now.disk) c.args.plan.first.items) c.args.plan.second.items
 seen_now g c told =
     c.in-Ok.ensures.written told
-    ∙ ap (λ (ps : List Page). over (over (g.D.Disk.seen c.args.disk.now.disk) ps) c.deref-2.result.now) c.deref.ensures.value
-    ∙ ap (λ (ps : List Page). over (over (g.D.Disk.seen c.args.disk.now.disk) c.args.plan.first.items) ps) c.deref-2.ensures.value
+    ∙ ap (λ (ps : List Page). over (over (g.D.Disk.seen c.args.disk.now.disk) ps) c.deref-3.result.now) c.deref.ensures.value
+    ∙ ap (λ (ps : List Page). over (over (g.D.Disk.seen c.args.disk.now.disk) c.args.plan.first.items) ps) c.deref-3.ensures.value
 
 pub returns-in-Ok-clause-done : goal.returns-in-Ok-clause-done
 returns-in-Ok-clause-done g c = λ limit worker workers changes opened planned told k.

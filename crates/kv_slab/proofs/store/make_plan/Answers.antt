@@ -61,10 +61,26 @@ returns-in_err-stacks-clause-reads g c =
     (at_most-then g.D.Disk n n (2 * n) c.args.disk.now.disk c.assign.new.disk.disk c.plan_first.new.disk.disk (omega arith) c.assign.ensures.reads c.plan_first.ensures.reads)
     c.plan_second.ensures.reads
 
+pub returns-in_err-first_order-clause-reads : goal.returns-in_err-first_order-clause-reads
+returns-in_err-first_order-clause-reads g c =
+    let n = length c.args.changes.now in
+    let moves : length c.deref-4.result.now ≡ n = ap length c.deref-4.ensures.value ∙ c.in_ok-moves.ensures.each.count in
+    at_most-then g.D.Disk (2 * n) (length c.deref-4.result.now) (3 * n) c.args.disk.now.disk c.plan_first.new.disk.disk c.plan_second.new.disk.disk (omega arith)
+    (at_most-then g.D.Disk n n (2 * n) c.args.disk.now.disk c.assign.new.disk.disk c.plan_first.new.disk.disk (omega arith) c.assign.ensures.reads c.plan_first.ensures.reads)
+    c.plan_second.ensures.reads
+
+pub returns-in_err-second_order-clause-reads : goal.returns-in_err-second_order-clause-reads
+returns-in_err-second_order-clause-reads g c =
+    let n = length c.args.changes.now in
+    let moves : length c.deref-4.result.now ≡ n = ap length c.deref-4.ensures.value ∙ c.in_ok-moves.ensures.each.count in
+    at_most-then g.D.Disk (2 * n) (length c.deref-4.result.now) (3 * n) c.args.disk.now.disk c.plan_first.new.disk.disk c.plan_second.new.disk.disk (omega arith)
+    (at_most-then g.D.Disk n n (2 * n) c.args.disk.now.disk c.assign.new.disk.disk c.plan_first.new.disk.disk (omega arith) c.assign.ensures.reads c.plan_first.ensures.reads)
+    c.plan_second.ensures.reads
+
 pub returns-clause-told : goal.returns-clause-told
 returns-clause-told g c = λ told start rooms placed linked.
     let so_far = c.in_ok-moves.ensures.assigned told start (subst (λ (kept : List Room). AreRooms kept start) (sym c.in_ok-now.ensures.ok) rooms) placed linked in
-    subst (λ (k : List Room). PlannedFor (g.D.Disk.seen c.args.disk.now.disk) (finite.get (g.I.Index.entries c.reserve.new.self)) start c.args.changes.now c.in_ok-moves.moves.items c.in_ok-first.first.items c.in_ok-second.second.items k) (sym (c.in_ok-stacks.ensures.ok ∙ c.deref-6.ensures.value))
+    subst (λ (k : List Room). PlannedFor (g.D.Disk.seen c.args.disk.now.disk) (finite.get (g.I.Index.entries c.reserve.new.self)) start c.args.changes.now c.in_ok-moves.moves.items c.in_ok-first.first.items c.in_ok-second.second.items k) (sym (c.in_ok-stacks.ensures.ok ∙ c.deref-8.ensures.value))
     (planned_for (g.D.Disk.seen c.args.disk.now.disk) (g.D.Disk.seen c.assign.new.disk.disk) (g.D.Disk.seen c.plan_first.new.disk.disk) _ start so_far.0 c.args.changes.now
     c.in_ok-moves.moves.items c.deref.result.now c.deref-2.result.now c.deref-4.result.now c.in_ok-first.first.items c.deref-3.result.now c.in_ok-second.second.items
     c.in_ok-links.links.items c.deref-5.result.now c.leave.new.rooms.items
@@ -89,5 +105,5 @@ returns-clause-lengths g c =
         (ap length kept ∙ c.requires.ends.count ∙ sym c.in_ok-moves.ensures.ends.count) c.in_ok-moves.ensures.counted given in
     let same = lengths-same t t (λ k. 0 + length (slots_left c.in_ok-moves.moves.items k)) (λ k. length (left_slots index changes k)) c.in_ok-now.now.items c.leave.new.rooms.items
         (λ _. refl) (left_lengths index changes c.in_ok-moves.moves.items c.in_ok-moves.ensures.each.count c.in_ok-moves.ensures.lefts) all in
-    subst (λ (ks : List Room). HaveLengths t (λ k. length (left_slots index changes k)) (rooms_of c.args.stacks.now c.args.ends.now) ks) (sym (c.in_ok-stacks.ensures.ok ∙ c.deref-6.ensures.value))
+    subst (λ (ks : List Room). HaveLengths t (λ k. length (left_slots index changes k)) (rooms_of c.args.stacks.now c.args.ends.now) ks) (sym (c.in_ok-stacks.ensures.ok ∙ c.deref-8.ensures.value))
     (subst (λ (ks : List Room). HaveLengths t (λ k. length (left_slots index changes k)) ks c.leave.new.rooms.items) kept same)

@@ -111,18 +111,18 @@ items-insert m k v c =
 items-remove-o : (m : Entries) (k : List ℕ) (c : ℕ) (o : Option Entry) → get m k ≡ o → items_in (remove m k) c + weight c o ≡ items_in m c
 items-remove-o m k c None is =
     let same : remove m k ≡ m = same_map nat_list_cmp_total one_key (remove m k) m (λ q.
-        ⊎_elim
-        (λ (t : (bytes_eq k q ≡ true) × (k ≡ q)). ap (get (remove m k)) (sym t.1) ∙ get_removed m k ∙ sym is ∙ ap (get m) t.1)
-        (λ (t : (bytes_eq k q ≡ false) × (k ≡ q → ⊥)). get_removed_other m k q (λ e. t.1 (sym e)))
-        (key_or_not k q)) in
+    ⊎_elim
+    (λ (t : (bytes_eq k q ≡ true) × (k ≡ q)). ap (get (remove m k)) (sym t.1) ∙ get_removed m k ∙ sym is ∙ ap (get m) t.1)
+    (λ (t : (bytes_eq k q ≡ false) × (k ≡ q → ⊥)). get_removed_other m k q (λ e. t.1 (sym e)))
+    (key_or_not k q)) in
     let count_same : items_in (remove m k) c ≡ items_in m c = ap (λ x. items_in x c) same in
     omega arith
 items-remove-o m k c (Some v) is =
     let same : m ≡ insert (remove m k) k v = same_map nat_list_cmp_total one_key m (insert (remove m k) k v) (λ q.
-        ⊎_elim
-        (λ (t : (bytes_eq k q ≡ true) × (k ≡ q)). ap (get m) (sym t.1) ∙ is ∙ sym (get_set (remove m k) k v) ∙ ap (get (insert (remove m k) k v)) t.1)
-        (λ (t : (bytes_eq k q ≡ false) × (k ≡ q → ⊥)). sym (get_set_other (remove m k) k v q (λ e. t.1 (sym e)) ∙ get_removed_other m k q (λ e. t.1 (sym e))))
-        (key_or_not k q)) in
+    ⊎_elim
+    (λ (t : (bytes_eq k q ≡ true) × (k ≡ q)). ap (get m) (sym t.1) ∙ is ∙ sym (get_set (remove m k) k v) ∙ ap (get (insert (remove m k) k v)) t.1)
+    (λ (t : (bytes_eq k q ≡ false) × (k ≡ q → ⊥)). sym (get_set_other (remove m k) k v q (λ e. t.1 (sym e)) ∙ get_removed_other m k q (λ e. t.1 (sym e))))
+    (key_or_not k q)) in
     let count_same : items_in m c ≡ items_in (insert (remove m k) k v) c = ap (λ x. items_in x c) same in
     let put_again = items-insert (remove m k) k v c in
     let gone : weight c (get (remove m k) k) ≡ 0 = ap (weight c) (get_removed m k) in
@@ -217,45 +217,47 @@ balance (Some e) None to stamp class none some =
     let g = one_or_none e.place class in
     omega arith
   where
-  one_or_none : (p : Place) (class : ℕ) → length (slots_of (Some p) class) ≡ one_if (p.class == class)
-  one_or_none p class = by_test (p.class == class)
-    where
-    by_test : (b : Bool) → length (if b then p.slot ∷ [] else []) ≡ one_if b
-    by_test true = refl
-    by_test false = refl
+    one_or_none : (p : Place) (class : ℕ) → length (slots_of (Some p) class) ≡ one_if (p.class == class)
+    one_or_none p class = by_test (p.class == class)
+      where
+        by_test : (b : Bool) → length (if b then p.slot ∷ [] else []) ≡ one_if b
+        by_test true = refl
+        by_test false = refl
 balance (Some e) (Some k) to stamp class none some =
     let p = some k refl in
     let now : one_if (k == class) ≡ weight class (entry_at stamp to) =
     ap (λ n. one_if (n == class)) (sym p.2) ∙ ap (λ o. weight class (entry_at stamp o)) (sym p.1) in
     by_stay ((e.place.class == k) && is_small k) refl now
   where
-  same_of : (a b : ℕ) (s : Bool) → ((a == b) && s) ≡ true → a ≡ b
-  same_of a b s is = elim (cases_eq a b) [
-    | inl same ↦ same
-    | inr other ↦ absurd (subst T (sym (sym (ap (λ t. t && s) (ne_eqb a b other)) ∙ is)) tt)
-  ]
-  one_or_none2 : (p : Place) (class : ℕ) → length (slots_of (Some p) class) ≡ one_if (p.class == class)
-  one_or_none2 p class = by_test (p.class == class)
-    where
-    by_test : (b : Bool) → length (if b then p.slot ∷ [] else []) ≡ one_if b
-    by_test true = refl
-    by_test false = refl
-  by_stay : (b : Bool) → ((e.place.class == k) && is_small k) ≡ b → one_if (k == class) ≡ weight class (entry_at stamp to)
-      → weight class (Some e) + one_if (is_class (slot_class (Some e) (Some k)) class) ≡ weight class (entry_at stamp to) + length (slots_of (left_for (Some e) (Some k)) class)
-  by_stay true stays now =
-      let same : e.place.class ≡ k = same_of (e.place.class) k (is_small k) stays in
-      let one : one_if (is_class (slot_class (Some e) (Some k)) class) ≡ 0 =
-      ap (λ (b : Bool). one_if (is_class (if b then None else Some k) class)) stays in
-      let two : length (slots_of (left_for (Some e) (Some k)) class) ≡ 0 =
-      ap (λ (b : Bool). length (slots_of (if b then None else Some e.place) class)) stays in
-      let three : weight class (Some e) ≡ one_if (k == class) = ap (λ n. one_if (n == class)) same in
-      omega (arith, now, one, two, three)
-  by_stay false goes now =
-      let one : one_if (is_class (slot_class (Some e) (Some k)) class) ≡ one_if (k == class) =
-      ap (λ (b : Bool). one_if (is_class (if b then None else Some k) class)) goes in
-      let two : length (slots_of (left_for (Some e) (Some k)) class) ≡ weight class (Some e) =
-      ap (λ (b : Bool). length (slots_of (if b then None else Some e.place) class)) goes ∙ one_or_none2 e.place class in
-      omega (arith, now, one, two)
+    same_of : (a b : ℕ) (s : Bool) → ((a == b) && s) ≡ true → a ≡ b
+    same_of a b s is = elim (cases_eq a b) [
+      | inl same ↦ same
+      | inr other ↦ absurd (subst T (sym (sym (ap (λ t. t && s) (ne_eqb a b other)) ∙ is)) tt)
+    ]
+
+    one_or_none2 : (p : Place) (class : ℕ) → length (slots_of (Some p) class) ≡ one_if (p.class == class)
+    one_or_none2 p class = by_test (p.class == class)
+      where
+        by_test : (b : Bool) → length (if b then p.slot ∷ [] else []) ≡ one_if b
+        by_test true = refl
+        by_test false = refl
+
+    by_stay : (b : Bool) → ((e.place.class == k) && is_small k) ≡ b → one_if (k == class) ≡ weight class (entry_at stamp to)
+        → weight class (Some e) + one_if (is_class (slot_class (Some e) (Some k)) class) ≡ weight class (entry_at stamp to) + length (slots_of (left_for (Some e) (Some k)) class)
+    by_stay true stays now =
+        let same : e.place.class ≡ k = same_of (e.place.class) k (is_small k) stays in
+        let one : one_if (is_class (slot_class (Some e) (Some k)) class) ≡ 0 =
+        ap (λ (b : Bool). one_if (is_class (if b then None else Some k) class)) stays in
+        let two : length (slots_of (left_for (Some e) (Some k)) class) ≡ 0 =
+        ap (λ (b : Bool). length (slots_of (if b then None else Some e.place) class)) stays in
+        let three : weight class (Some e) ≡ one_if (k == class) = ap (λ n. one_if (n == class)) same in
+        omega (arith, now, one, two, three)
+    by_stay false goes now =
+        let one : one_if (is_class (slot_class (Some e) (Some k)) class) ≡ one_if (k == class) =
+        ap (λ (b : Bool). one_if (is_class (if b then None else Some k) class)) goes in
+        let two : length (slots_of (left_for (Some e) (Some k)) class) ≡ weight class (Some e) =
+        ap (λ (b : Bool). length (slots_of (if b then None else Some e.place) class)) goes ∙ one_or_none2 e.place class in
+        omega (arith, now, one, two)
 
 -- all changes of a batch
 pub balances : (m : Entries) (changes : List Change) (moves : List Move) (class : ℕ) → AreAllMoves (get m) changes moves
@@ -271,25 +273,26 @@ balances m (c ∷ cs) (mv ∷ ms) class all =
       each = λ i d n pair. all.each (suc i) d n (record { change = pair.change; move = pair.move });
     }) in
     let here = balance (get m c.key) (item_class c.key c.value) mv.to mv.stamp class
-        (λ none. no_item c mv c.value refl is.none is.some none)
-        (λ k some. one_item c mv c.value refl is.some k some) in
+    (λ none. no_item c mv c.value refl is.none is.some none)
+    (λ k some. one_item c mv c.value refl is.some k some) in
     let old : weight class (get m mv.key) ≡ weight class (get m c.key) = ap (λ k. weight class (get m k)) is.key in
     let slots = length-append (slots_of (left_by (get m) c) class) (left_slots (get m) cs class) in
     omega (arith, here, rest, old, slots)
   where
-  no_item : (c : Change) (mv : Move) (v : Option (List ℕ)) → c.value ≡ v → (c.value ≡ None → mv.to ≡ None)
-      → ((w : List ℕ) → c.value ≡ Some w → (p : Place) × (mv.to ≡ Some p) × CanHold c w p) → item_class c.key v ≡ None → mv.to ≡ None
-  no_item c mv None has none some is = none has
-  no_item c mv (Some w) has none some is =
-      let p = some w has in
-      absurd (let e = sym p.2.class ∙ is in cc)
-  one_item : (c : Change) (mv : Move) (v : Option (List ℕ)) → c.value ≡ v
-      → ((w : List ℕ) → c.value ≡ Some w → (p : Place) × (mv.to ≡ Some p) × CanHold c w p) → (k : ℕ) → item_class c.key v ≡ Some k
-      → (p : Place) × (mv.to ≡ Some p) × (p.class ≡ k)
-  one_item c mv None has some k is = absurd (cc)
-  one_item c mv (Some w) has some k is =
-      let p = some w has in
-      (p.0, p.1, (let e = sym p.2.class ∙ is in cc))
+    no_item : (c : Change) (mv : Move) (v : Option (List ℕ)) → c.value ≡ v → (c.value ≡ None → mv.to ≡ None)
+        → ((w : List ℕ) → c.value ≡ Some w → (p : Place) × (mv.to ≡ Some p) × CanHold c w p) → item_class c.key v ≡ None → mv.to ≡ None
+    no_item c mv None has none some is = none has
+    no_item c mv (Some w) has none some is =
+        let p = some w has in
+        absurd (let e = sym p.2.class ∙ is in cc)
+
+    one_item : (c : Change) (mv : Move) (v : Option (List ℕ)) → c.value ≡ v
+        → ((w : List ℕ) → c.value ≡ Some w → (p : Place) × (mv.to ≡ Some p) × CanHold c w p) → (k : ℕ) → item_class c.key v ≡ Some k
+        → (p : Place) × (mv.to ≡ Some p) × (p.class ≡ k)
+    one_item c mv None has some k is = absurd (cc)
+    one_item c mv (Some w) has some k is =
+        let p = some w has in
+        (p.0, p.1, (let e = sym p.2.class ∙ is in cc))
 
 -- the keys of the moves are those of the changes
 moves_apart : (m : Entries) (changes : List Change) (moves : List Move) → AreDistinct changes → AreAllMoves (get m) changes moves → KeysApart moves

@@ -43,8 +43,8 @@ module _ (image : Image) (index : Index) (rooms : Rooms) (worker workers : ℕ) 
   gives_of k None is = λ copy found. absurd (let a = entry_of_found k copy found in let b = is in cc)
   gives_of k (Some e) is =
       let item = stands.items k e is in
-      subst (λ (x : Slot). Gives (slot_at all_classes image) worker workers k (item_of x)) (sym item.1)
-      (record { class = e.place.class; slot = e.place.slot; stamp = e.stamp; value = item.0 },
+      subst (λ (x : Slot). Gives (slot_at all_classes image) worker workers k (item_of x)) (sym item.1) (
+        record { class = e.place.class; slot = e.place.slot; stamp = e.stamp; value = item.0 },
         record {
           found = record { stands = item.1; owned = stands.owned k e is };
           first = λ other found.
@@ -52,7 +52,10 @@ module _ (image : Image) (index : Index) (rooms : Rooms) (worker workers : ℕ) 
               let one : e ≡ record { stamp = other.stamp; place = record { class = other.class; slot = other.slot } } = cc in
               let slot : e.place.slot ≡ other.slot = ap (λ (x : Entry). x.place.slot) one in
               inr (ap (λ (x : Entry). x.stamp) one, inr (ap (λ (x : Entry). x.place.class) one, omega arith));
-        }, refl, refl)
+        },
+        refl,
+        refl,
+      )
 
   pub keeps_map : KeepsMap image (map_of image index) worker workers
   keeps_map = record {

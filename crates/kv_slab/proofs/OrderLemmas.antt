@@ -1,10 +1,10 @@
 -- Pages that are written in another order.
-use Rattle.std.proofs.Common.{◌≡◌, ◌⊎◌, inl, inr, ⊎_elim, ◌∙◌, ℕ, zero, suc, ◌+◌, ◌<◌, ◌≤◌, true, false, List, [], ◌∷◌, ◌++◌, length, get_or, map, refl, sym, ap, subst, arith, length-append}
-use Rattle.std.proofs.lemmas.Bool.{cases_lt, cases_eq, false≢true}
+use Rattle.std.proofs.Common.{◌≡◌, inl, inr, ⊎_elim, ◌∙◌, ℕ, zero, suc, ◌+◌, ◌<◌, ◌≤◌, true, false, List, [], ◌∷◌, ◌++◌, length, get_or, map, refl, sym, ap, arith, length-append}
+use Rattle.std.proofs.lemmas.Bool.{cases_lt}
 use Rattle.std.proofs.lemmas.List.Elements.{Contains-get_or}
 use Rattle.std.proofs.lemmas.List.Sorted.{All-permutation, Contains-permutation}
 use Rattle.std.proofs.lemmas.List.{map-append}
-use Rattle.std.specs.List.{All, Contains, range_with_len}
+use Rattle.std.specs.List.{range_with_len}
 use Rattle.kv_slab.proofs.HandOver.{range-more}
 use Rattle.std.specs.List.Sorted.{IsPermutation}
 use Rattle.kv_base.specs.Image.{Image, with_page}
@@ -31,9 +31,11 @@ order_of_keys pages keys order are size count moved = record {
       let e = third_at keys 0 (length pages) k d are below in omega arith);
   covers = λ i below.
       let key = get_or keys i (0, 0, 0) in
-      let in_keys : i < length keys = omega arith in
-      (key, Contains-permutation keys order key moved (Contains-get_or keys i (0, 0, 0) in_keys),
-        third_at keys 0 (length pages) i (0, 0, 0) are in_keys ∙ (let e : 0 + i ≡ i = omega arith in e));
+      let in_keys : i < length keys = omega arith in (
+        key,
+        Contains-permutation keys order key moved (Contains-get_or keys i (0, 0, 0) in_keys),
+        third_at keys 0 (length pages) i (0, 0, 0) are in_keys ∙ (let e : 0 + i ≡ i = omega arith in e),
+      );
 }
 
 -- nothing was written yet
@@ -52,17 +54,20 @@ written_next old now pages order n i page apart below is number so_far f p = eli
       let same = with_page-other now page.file page.page page.content f p far in
       elim (so_far f p) [
         | inl done ↦ inl (same ∙ done)
-        | inr still ↦ inr (same ∙ still.0, λ k d less e. elim (cases_lt k n) [
-          | inl before ↦ still.1 k d before e
-          | inr last ↦
-              let k_is : k ≡ n = omega arith in
-              let here : (get_or order k d).2 ≡ i = ap (λ j. (get_or order j d).2) k_is ∙ number d in
-              ⊎_elim
-              (λ (t : (is_at f p page ≡ true) × (page.file ≡ f) × (page.page ≡ p)). absurd (far (sym t.1) (sym t.2)))
-              (λ (t : (is_at f p page ≡ false) × ((f ≡ page.file) → (p ≡ page.page) → ⊥)).
-              ap (λ j. is_at f p (get_or pages j e)) here ∙ ap (is_at f p) (same_default pages i e page below ∙ sym is) ∙ t.0)
-              (at_place f p page)
-        ])
+        | inr still ↦ inr (
+          same ∙ still.0,
+          λ k d less e. elim (cases_lt k n) [
+            | inl before ↦ still.1 k d before e
+            | inr last ↦
+                let k_is : k ≡ n = omega arith in
+                let here : (get_or order k d).2 ≡ i = ap (λ j. (get_or order j d).2) k_is ∙ number d in
+                ⊎_elim
+                (λ (t : (is_at f p page ≡ true) × (page.file ≡ f) × (page.page ≡ p)). absurd (far (sym t.1) (sym t.2)))
+                (λ (t : (is_at f p page ≡ false) × ((f ≡ page.file) → (p ≡ page.page) → ⊥)).
+                ap (λ j. is_at f p (get_or pages j e)) here ∙ ap (is_at f p) (same_default pages i e page below ∙ sym is) ∙ t.0)
+                (at_place f p page)
+          ],
+        )
       ]
 ]
 
@@ -86,7 +91,8 @@ written_all old now pages order n is all so_far = same_image now (over old pages
 pub keys_more : (old new : List (ℕ × ℕ × ℕ)) (key : ℕ × ℕ × ℕ) (n : ℕ) → new ≡ old ++ key ∷ [] → key.2 ≡ n → map (λ k. k.2) old ≡ range_with_len 0 n → length old ≡ n
     → (map (λ k. k.2) new ≡ range_with_len 0 (n + 1)) × (length new ≡ n + 1)
 keys_more old new key n is last keys count =
-    let start : n ≡ 0 + n = omega arith in
-    (ap (map (λ (k : ℕ × ℕ × ℕ). k.2)) is ∙ map-append (λ (k : ℕ × ℕ × ℕ). k.2) old (key ∷ [])
-      ∙ ap (λ (l : List ℕ). l ++ key.2 ∷ []) keys ∙ ap (λ (x : ℕ). range_with_len 0 n ++ x ∷ []) (last ∙ start) ∙ sym (range-more 0 n),
-      ap length is ∙ length-append old (key ∷ []) ∙ ap (λ k. k + 1) count)
+    let start : n ≡ 0 + n = omega arith in (
+      ap (map (λ (k : ℕ × ℕ × ℕ). k.2)) is ∙ map-append (λ (k : ℕ × ℕ × ℕ). k.2) old (key ∷ [])
+          ∙ ap (λ (l : List ℕ). l ++ key.2 ∷ []) keys ∙ ap (λ (x : ℕ). range_with_len 0 n ++ x ∷ []) (last ∙ start) ∙ sym (range-more 0 n),
+      ap length is ∙ length-append old (key ∷ []) ∙ ap (λ k. k + 1) count,
+    )

@@ -173,9 +173,10 @@ pub apart_set : (xs : List Page) (i : ℕ) (new : Page) → ((d : Page) → (new
 apart_set [] i new same apart = apart
 apart_set (x ∷ xs) zero new same apart =
     (subst (λ (g : ℕ). Missing g new.page xs) (sym (same x).0) (subst (λ (q : ℕ). Missing x.file q xs) (sym (same x).1) apart.0), apart.1)
-apart_set (x ∷ xs) (suc i) new same apart =
-    (missing_set x.file x.page xs i new (λ d. ap (λ (g : ℕ). (g == x.file) && (new.page == x.page)) (same d).0 ∙ ap (λ (q : ℕ). ((get_or xs i d).file == x.file) && (q == x.page)) (same d).1) apart.0,
-      apart_set xs i new same apart.1)
+apart_set (x ∷ xs) (suc i) new same apart = (
+  missing_set x.file x.page xs i new (λ d. ap (λ (g : ℕ). (g == x.file) && (new.page == x.page)) (same d).0 ∙ ap (λ (q : ℕ). ((get_or xs i d).file == x.file) && (q == x.page)) (same d).1) apart.0,
+  apart_set xs i new same apart.1,
+)
 
 push_other : (image : Image) (f p : ℕ) (xs : List Page) (new : Page) (g q : ℕ) → is_at g q new ≡ false → over image (xs ++ new ∷ []) g q ≡ over image xs g q
 push_other image f p [] new g q e = rw e
@@ -283,11 +284,11 @@ set_slot base xs ys i class slot page bytes was new high apart has is value e d 
     let file : new.file ≡ class = e ∙ ap (λ (q : Page). q.file) value ∙ place.0 in
     let number : new.page ≡ page = d ∙ ap (λ (q : Page). q.page) value ∙ place.1 in
     let content : was.content ≡ over base ys class (page_of class slot) =
-        ap (λ (q : Page). q.content) value ∙ over_there base class page ys i was apart has ∙ ap (λ (q : ℕ). over base ys class q) is in
+    ap (λ (q : Page). q.content) value ∙ over_there base class page ys i was apart has ∙ ap (λ (q : ℕ). over base ys class q) is in
     let sets = sets_slot (over base ys) class slot bytes new.content high (ap length (sym content) ∙ size) fits
-        (puts ∙ ap (λ (c : List ℕ). overwritten c (offset_of class slot) bytes) content) in
+    (puts ∙ ap (λ (c : List ℕ). overwritten c (offset_of class slot) bytes) content) in
     let image : over base (set ys i new) ≡ with_page (over base ys) class (page_of class slot) new.content =
-        over_set base class page ys i new apart has file number ∙ ap (λ (q : ℕ). with_page (over base ys) class q new.content) is in
+    over_set base class page ys i new apart has file number ∙ ap (λ (q : ℕ). with_page (over base ys) class q new.content) is in
     subst (λ (im : Image). Sets class slot bytes im (over base (set ys i new))) same
     (subst (λ (im : Image). Sets class slot bytes (over base ys) im) (sym image) sets)
 
@@ -314,7 +315,7 @@ pub pages_pushed : (f p : ℕ) (xs ys : List Page) (ok : Bool) (new : Page) → 
 pages_pushed f p xs ys ok new done is missing e d low high small pages =
     let longer : ys ≡ xs ++ new ∷ [] = rw done at is in
     let of : IsOfSlab new = subst (λ (g : ℕ). (1 ≤ g) × (g ≤ 11) × (new.page < most_pages g)) (sym e)
-        (subst (λ (q : ℕ). (1 ≤ f) × (f ≤ 11) × (q < most_pages f)) (sym d) (low, high, small)) in
+    (subst (λ (q : ℕ). (1 ≤ f) × (f ≤ 11) × (q < most_pages f)) (sym d) (low, high, small)) in
     record {
       apart = apart_pushed f p xs ys ok new done is missing e d pages.apart;
       of_slabs = subst AreOfSlabs (sym longer) (of_slabs_push xs new of pages.of_slabs);
@@ -333,7 +334,7 @@ over_beside image (held ∷ rest) f p of out =
     ⊎_elim
     (λ (t : (is_at f p held ≡ true) × (held.file ≡ f) × (held.page ≡ p)).
     let here : (1 ≤ f) × (f ≤ 11) × (p < most_pages f) = subst (λ (g : ℕ). (1 ≤ g) × (g ≤ 11) × (p < most_pages g)) t.1
-        (subst (λ (q : ℕ). (1 ≤ held.file) × (held.file ≤ 11) × (q < most_pages held.file)) t.2 of.0) in
+    (subst (λ (q : ℕ). (1 ≤ held.file) × (held.file ≤ 11) × (q < most_pages held.file)) t.2 of.0) in
     absurd (out here.0 here.1 here.2))
     (λ (t : (is_at f p held ≡ false) × ((f ≡ held.file) → (p ≡ held.page) → ⊥)). rw t.0 (over_beside image rest f p of.1 out))
     (at_place f p held)

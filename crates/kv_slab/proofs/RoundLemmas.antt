@@ -24,8 +24,8 @@ kept_at read index k None h e = λ copy found.
 kept_at read index k (Some at) h e =
     let value = (h.each k at e).0 in
     let is : read at.place.class at.place.slot ≡ Item at.stamp k value = (h.each k at e).1 in
-    subst (λ (slot : Slot). GivesItem read k (item_of slot)) (sym is)
-    (record { class = at.place.class; slot = at.place.slot; stamp = at.stamp; value = value },
+    subst (λ (slot : Slot). GivesItem read k (item_of slot)) (sym is) (
+      record { class = at.place.class; slot = at.place.slot; stamp = at.stamp; value = value },
       record {
         found = is;
         first = λ other found.
@@ -37,7 +37,8 @@ kept_at read index k (Some at) h e =
             inr (t, inr (c, omega arith));
       },
       refl,
-      refl)
+      refl,
+    )
 
 pub holds_gives : (read : Reading) (index : Index) (k : List ℕ) → Holds index read → GivesItem read k (answer_of read (index k))
 holds_gives read index k h = kept_at read index k (index k) h refl
@@ -49,8 +50,8 @@ stays_at old now index k None h e still none = λ copy found. kept_at old index 
 stays_at old now index k (Some at) h e still none =
     let value = (h.each k at e).0 in
     let is : old at.place.class at.place.slot ≡ Item at.stamp k value = (h.each k at e).1 in
-    subst (λ (slot : Slot). GivesItem now k (item_of slot)) (sym is)
-    (record { class = at.place.class; slot = at.place.slot; stamp = at.stamp; value = value },
+    subst (λ (slot : Slot). GivesItem now k (item_of slot)) (sym is) (
+      record { class = at.place.class; slot = at.place.slot; stamp = at.stamp; value = value },
       record {
         found = still at e ∙ is;
         first = λ other found.
@@ -62,7 +63,8 @@ stays_at old now index k (Some at) h e still none =
             inr (t, inr (c, omega arith));
       },
       refl,
-      refl)
+      refl,
+    )
 
 pub stays_old : (old now : Reading) (index : Index) (k : List ℕ) → Holds index old → ((e : At) → index k ≡ Some e → now e.place.class e.place.slot ≡ old e.place.class e.place.slot)
     → ((copy : Copy) → IsItemOf now k copy → IsItemOf old k copy) → GivesItem now k (answer_of old (index k))
@@ -75,18 +77,19 @@ pub record IsNewest (k : List ℕ) (stamp : ℕ) (t : To) (copy : Copy) : Type 0
 
 pub becomes_new : (now : Reading) (k : List ℕ) (stamp : ℕ) (t : To) → now t.class t.slot ≡ Item stamp k t.value
     → ((copy : Copy) → IsItemOf now k copy → (copy.stamp < stamp) ⊎ IsNewest k stamp t copy) → GivesItem now k (Some (stamp, t.value))
-becomes_new now k stamp t is others =
-    (record { class = t.class; slot = t.slot; stamp = stamp; value = t.value },
-      record {
-        found = is;
-        first = λ other found.
-            ⊎_elim
-            (λ (less : other.stamp < stamp). inl less)
-            (λ (new : IsNewest k stamp t other). inr (sym new.stamped, inr (new.place.0, let p = new.place.1 in omega arith)))
-            (others other found);
-      },
-      refl,
-      refl)
+becomes_new now k stamp t is others = (
+  record { class = t.class; slot = t.slot; stamp = stamp; value = t.value },
+  record {
+    found = is;
+    first = λ other found.
+        ⊎_elim
+        (λ (less : other.stamp < stamp). inl less)
+        (λ (new : IsNewest k stamp t other). inr (sym new.stamped, inr (new.place.0, let p = new.place.1 in omega arith)))
+        (others other found);
+  },
+  refl,
+  refl,
+)
 
 module _ (index : Index) (steps : Steps) (old : Reading) (h : Holds index old) (fits : Fits index steps) where
   -- what is found of a key in the first round was there before, or is its new item
@@ -172,8 +175,8 @@ module _ (index : Index) (steps : Steps) (old : Reading) (h : Holds index old) (
       let to : new.1 ≡ t = (let a = new.3 in let b = ap (λ (s : Step). s.to) same in cc) in
       let stamp : copy.stamp ≡ st.stamp = new.4.stamped ∙ ap (λ (s : Step). s.stamp) same in
       inr (record {
-          stamped = stamp;
-          place = (ap (λ (u : To). u.class) (sym to) ∙ new.4.place.0, ap (λ (u : To). u.slot) (sym to) ∙ new.4.place.1);
+        stamped = stamp;
+        place = (ap (λ (u : To). u.class) (sym to) ∙ new.4.place.0, ap (λ (u : To). u.slot) (sym to) ∙ new.4.place.1);
       }))
       (first_found now in_first k copy (still copy found)))
 
@@ -263,10 +266,10 @@ module _ (index : Index) (steps : Steps) (old : Reading) (h : Holds index old) (
     second_none : (now : Reading) → InSecond steps mid now → (k : List ℕ) → steps k ≡ None → ((e : At) → index k ≡ Some e → now e.place.class e.place.slot ≡ old e.place.class e.place.slot)
     second_none now in_second k none e at =
         let was : mid e.place.class e.place.slot ≡ old e.place.class e.place.slot =
-            ⊎_elim
-            (λ (same : mid e.place.class e.place.slot ≡ old e.place.class e.place.slot). same)
-            (λ (new : (st : Step) × (t : To) × (steps k ≡ Some st) × (st.to ≡ Some t) × IsPlace t.class t.slot e.place.class e.place.slot). absurd (let a = new.2 in cc))
-            (first_stays mid in_first k e at) in
+        ⊎_elim
+        (λ (same : mid e.place.class e.place.slot ≡ old e.place.class e.place.slot). same)
+        (λ (new : (st : Step) × (t : To) × (steps k ≡ Some st) × (st.to ≡ Some t) × IsPlace t.class t.slot e.place.class e.place.slot). absurd (let a = new.2 in cc))
+        (first_stays mid in_first k e at) in
         ⊎_elim
         (λ (same : now e.place.class e.place.slot ≡ mid e.place.class e.place.slot). same ∙ was)
         (λ (left : IsLeft steps e.place.class e.place.slot (now e.place.class e.place.slot)). absurd (let key = left_key (now e.place.class e.place.slot) k e at left in let has = left.has in cc))
@@ -379,12 +382,12 @@ module _ (index : Index) (steps : Steps) (old : Reading) (h : Holds index old) (
           absurd (item_not (now c s) t k v is
           (gone k st c s has
           (record {
-              at = entry c s t;
-              from = fits.from k st has ∙ at;
-              place = (refl, refl);
-              left = λ w to here.
-                  let same : w ≡ u = (let a = goes in cc) in
-                  apart (ap (λ (x : To). x.class) (sym same) ∙ here.0) (ap (λ (x : To). x.slot) (sym same) ∙ here.1);
+            at = entry c s t;
+            from = fits.from k st has ∙ at;
+            place = (refl, refl);
+            left = λ w to here.
+                let same : w ≡ u = (let a = goes in cc) in
+                apart (ap (λ (x : To). x.class) (sym same) ∙ here.0) (ap (λ (x : To). x.slot) (sym same) ∙ here.1);
           }))))
           (one_place u.class u.slot c s)
 

@@ -180,7 +180,7 @@ mix_slot a b image files mix c s = elim (cases_lt c 8) [
         ]
   ]
   | inr above ↦ inl (slot_at-same image a c s (λ p. elim (mix c p) [
-      | inl one ↦ one
-      | inr two ↦ two ∙ files c p above
-    ]))
+    | inl one ↦ one
+    | inr two ↦ two ∙ files c p above
+  ]))
 ]

@@ -86,15 +86,15 @@ first_more_to cs ms n old now next ch mv (Some t) toes pair goes so_far sets = r
       ⊎_elim
       (λ (here : IsPlace c s t.class t.slot).
       inr (record {
-          i = n;
-          change = ch;
-          move = mv;
-          to = t;
-          below = omega arith;
-          pair = pair;
-          goes = goes;
-          at = (sym here.0, sym here.1);
-          is = ap (λ (x : ℕ). next x s) here.0 ∙ ap (λ (x : ℕ). next t.class x) here.1 ∙ sets.here;
+        i = n;
+        change = ch;
+        move = mv;
+        to = t;
+        below = omega arith;
+        pair = pair;
+        goes = goes;
+        at = (sym here.0, sym here.1);
+        is = ap (λ (x : ℕ). next x s) here.0 ∙ ap (λ (x : ℕ). next t.class x) here.1 ∙ sets.here;
       }))
       (λ (far : (c ≡ t.class) → (s ≡ t.slot) → ⊥).
       let e : next c s ≡ now c s = sets.others c s (λ h. far h.0 h.1) in
@@ -110,9 +110,9 @@ first_more_to cs ms n old now next ch mv (Some t) toes pair goes so_far sets = r
       let g = to_of_some m.to c.value u to in
       let f = to_of_some mv.to ch.value t goes in
       let e : next u.class u.slot ≡ now u.class u.slot = sets.others u.class u.slot (λ h.
-          let same : i ≡ n = toes i n m mv g.place f.place p.move pair.move g.to f.to
-              (place_same g.place f.place (ap (λ (x : To). x.class) (sym g.is) ∙ h.0 ∙ ap (λ (x : To). x.class) f.is) (ap (λ (x : To). x.slot) (sym g.is) ∙ h.1 ∙ ap (λ (x : To). x.slot) f.is)) in
-          omega arith) in
+      let same : i ≡ n = toes i n m mv g.place f.place p.move pair.move g.to f.to
+      (place_same g.place f.place (ap (λ (x : To). x.class) (sym g.is) ∙ h.0 ∙ ap (λ (x : To). x.class) f.is) (ap (λ (x : To). x.slot) (sym g.is) ∙ h.1 ∙ ap (λ (x : To). x.slot) f.is)) in
+      omega arith) in
       e ∙ so_far.done i c m u less p to)
       (λ (is : i ≡ n).
       let a = p.change in
@@ -158,16 +158,16 @@ second_more_to ms links n mid now next mv link (Some q) apart here linked goes s
       ⊎_elim
       (λ (one : IsPlace c s q.class q.slot).
       inr (record {
-          i = n;
-          move = mv;
-          place = q;
-          link = link;
-          below = omega arith;
-          is = here;
-          linked = linked;
-          left = goes;
-          at = (sym one.0, sym one.1);
-          tombstone = ap (λ (x : ℕ). next x s) one.0 ∙ ap (λ (x : ℕ). next q.class x) one.1 ∙ sets.here;
+        i = n;
+        move = mv;
+        place = q;
+        link = link;
+        below = omega arith;
+        is = here;
+        linked = linked;
+        left = goes;
+        at = (sym one.0, sym one.1);
+        tombstone = ap (λ (x : ℕ). next x s) one.0 ∙ ap (λ (x : ℕ). next q.class x) one.1 ∙ sets.here;
       }))
       (λ (far : (c ≡ q.class) → (s ≡ q.slot) → ⊥). second_far ms links n mid now next c s (sets.others c s (λ h. far h.0 h.1)) so_far)
       (one_place c s q.class q.slot);
@@ -175,8 +175,8 @@ second_more_to ms links n mid now next mv link (Some q) apart here linked goes s
       ⊎_elim
       (λ (less : i < n).
       sets.others p.class p.slot (λ h.
-          let same : i ≡ n = apart i n m mv p q at here left goes (place_same p q h.0 h.1) in
-          omega arith)
+      let same : i ≡ n = apart i n m mv p q at here left goes (place_same p q h.0 h.1) in
+      omega arith)
       ∙ so_far.done i m p l less at at_link left)
       (λ (is : i ≡ n).
       let a = at in
@@ -217,9 +217,9 @@ whole_more cs ms n now next ch mv toes pair whole still so_far i c m t below p t
     (λ (less : i < n).
     let g = to_of_some m.to c.value t to in
     let same : SameSlot now next t.class t.slot = still t.class t.slot (λ q goes here.
-        let one : i ≡ n = toes i n m mv g.place q p.move pair.move g.to goes
-            (place_same g.place q (ap (λ (x : To). x.class) (sym g.is) ∙ here.0) (ap (λ (x : To). x.slot) (sym g.is) ∙ here.1)) in
-        omega arith) in
+    let one : i ≡ n = toes i n m mv g.place q p.move pair.move g.to goes
+    (place_same g.place q (ap (λ (x : To). x.class) (sym g.is) ∙ here.0) (ap (λ (x : To). x.slot) (sym g.is) ∙ here.1)) in
+    omega arith) in
     subst (λ (ps : List (List ℕ)). HaveStamp c.stamp ps) (sym (large_same now next t.class t.slot (same.large large))) (so_far i c m t less p to large))
     (λ (is : i ≡ n).
     let a = p.change in

@@ -77,11 +77,15 @@ large_left from item e class from_is item_is large =
 -- what the items give is what is given for an owned key
 gives-owned : (reading : Reading) (worker workers : ℕ) (k : List ℕ) (a : Answer) → owner_of k workers ≡ worker → GivesItem reading k a → Gives reading worker workers k a
 gives-owned reading worker workers k None owned gives = λ copy found. gives copy found.stands
-gives-owned reading worker workers k (Some answer) owned gives =
-    (gives.0, record {
-      found = record { stands = gives.1.found; owned = owned };
-      first = λ other found. gives.1.first other found.stands;
-    }, gives.2, gives.3)
+gives-owned reading worker workers k (Some answer) owned gives = (
+  gives.0,
+  record {
+    found = record { stands = gives.1.found; owned = owned };
+    first = λ other found. gives.1.first other found.stands;
+  },
+  gives.2,
+  gives.3,
+)
 
 module _ (seen : Image) (index : Index) (start : Rooms) (worker workers : ℕ) (changes : List Change) (moves : List Move) (first second : List Page) (kept : List Room)
     (stands : Stands seen index start worker workers) (can : MayChange seen index worker workers changes) (all_moves : AreAllMoves index changes moves)
@@ -169,32 +173,32 @@ module _ (seen : Image) (index : Index) (start : Rooms) (worker workers : ℕ) (
       let below = slice_get_within changes i ch.0 (ch.1).change in
       let whole = planned.whole i ch.0 m target below ch.1 goes.1 large in
       let low = below_of (ch.0).stamp (large_slot seen p.class p.slot)
-          (subst (λ heads. AllByRecursion (λ head. head < (ch.0).stamp) heads) (heads_at-large seen p.class p.slot large hold.place.high) (can.floor i ch.0 (ch.1).change p.class p.slot)) in
+      (subst (λ heads. AllByRecursion (λ head. head < (ch.0).stamp) heads) (heads_at-large seen p.class p.slot large hold.place.high) (can.floor i ch.0 (ch.1).change p.class p.slot)) in
       elim (mix_large seen (over seen first) image p.class p.slot (ch.0).stamp large hold.place.high low whole mix) [
         | inl old ↦ inl old
         | inr other ↦ elim other [
           | inl new ↦ inr (inl (record {
-              key = (ch.0).key;
-              step = step_of ch.0 m;
-              to = target;
-              has = steps_at changes moves i ch.0 m can.distinct ch.1;
-              goes = goes.1;
-              at = (refl, refl);
-              is = new ∙ planned.writes.done i ch.0 m target below ch.1 goes.1;
+            key = (ch.0).key;
+            step = step_of ch.0 m;
+            to = target;
+            has = steps_at changes moves i ch.0 m can.distinct ch.1;
+            goes = goes.1;
+            at = (refl, refl);
+            is = new ∙ planned.writes.done i ch.0 m target below ch.1 goes.1;
           }))
           | inr none ↦ inr (inr (record {
-              none = none;
-              free = λ j e has here. elim (planned.assigned.target i ch.0 m p ch.1 to) [
-                | inl stays ↦
-                    let gone = planned.assigned.left i ch.0 m ch.1 ∙ large_left (index (ch.0).key) (item_class (ch.0).key (ch.0).value) (stays.0).at p.class (stays.0).has
-                        (ap (λ v. item_class (ch.0).key v) value ∙ hold.class) large in
-                    absurd (let a = sym stays.1 ∙ gone in cc)
-                | inr used ↦ used.unused (j, e, has, here)
-              ];
+            none = none;
+            free = λ j e has here. elim (planned.assigned.target i ch.0 m p ch.1 to) [
+              | inl stays ↦
+                  let gone = planned.assigned.left i ch.0 m ch.1 ∙ large_left (index (ch.0).key) (item_class (ch.0).key (ch.0).value) (stays.0).at p.class (stays.0).has
+                  (ap (λ v. item_class (ch.0).key v) value ∙ hold.class) large in
+                  absurd (let a = sym stays.1 ∙ gone in cc)
+              | inr used ↦ used.unused (j, e, has, here)
+            ];
           }))
         ]
       ]
-      where
+    where
       some_value : Goes m.to (change_at index changes moves can.distinct are i m at).0.value (record { class = p.class; slot = p.slot; value = (goes_there (change_at index changes moves can.distinct are i m at).0 m p (change_at index changes moves can.distinct are i m at).0.value refl (all_moves.each i (change_at index changes moves can.distinct are i m at).0 m (change_at index changes moves can.distinct are i m at).1).none to).0 })
           → (change_at index changes moves can.distinct are i m at).0.value ≡ Some (goes_there (change_at index changes moves can.distinct are i m at).0 m p (change_at index changes moves can.distinct are i m at).0.value refl (all_moves.each i (change_at index changes moves can.distinct are i m at).0 m (change_at index changes moves can.distinct are i m at).1).none to).0
       some_value g = g.has ∙ ap Some (ap (λ (t : To). t.value) (sym g.is))
@@ -211,7 +215,7 @@ module _ (seen : Image) (index : Index) (start : Rooms) (worker workers : ℕ) (
     | inr large ↦ elim (target_or_not moves c s) [
       | inl t ↦
           let P : ℕ → ℕ → Type 0 = λ x y. (slot_at all_classes image x y ≡ slot_at all_classes seen x y)
-              ⊎ (IsNew (steps_of changes moves) x y (slot_at all_classes image x y) ⊎ IsUnused index x y (slot_at all_classes image x y)) in
+          ⊎ (IsNew (steps_of changes moves) x y (slot_at all_classes image x y) ⊎ IsUnused index x y (slot_at all_classes image x y)) in
           subst (λ x. P x s) (sym t.5.0) (subst (λ y. P (t.2).class y) (sym t.5.1)
           (at_target image mix t.0 t.1 t.2 t.3 t.4 (let e = t.5.0 in omega arith)))
       | inr none ↦ inl (slot_same seen image c s (mix_still seen (over seen first) image mix c s large (planned.first_still c s none)))
@@ -233,9 +237,9 @@ module _ (seen : Image) (index : Index) (start : Rooms) (worker workers : ℕ) (
             | inr two ↦ subst P (sym two) (in_second c s)
           ]
           | inr past ↦ inl (slot_at-same image (over seen first) c s (λ p. elim (mix c p) [
-              | inl one ↦ one
-              | inr two ↦ two ∙ files_second c p past
-            ]))
+            | inl one ↦ one
+            | inr two ↦ two ∙ files_second c p past
+          ]))
         ]
       ]
 
@@ -358,7 +362,7 @@ places_after index now changes moves all places settled k e at =
     let is = all.each i c.0 m (record { change = c.1; move = at_i }) in
     value_place c.0 m p (c.0).value refl to is.none is.some)
     (places k e) (sym (settled k) ∙ at)
-    where
+  where
     value_place : (c : Change) (m : Move) (p : Place) (v : Option (List ℕ)) → c.value ≡ v → m.to ≡ Some p → (c.value ≡ None → m.to ≡ None)
         → ((w : List ℕ) → c.value ≡ Some w → (q : Place) × (m.to ≡ Some q) × CanHold c w q) → IsSlabPlace p
     value_place c m p None has to none some = absurd (let a = none has in cc)
@@ -366,18 +370,19 @@ places_after index now changes moves all places settled k e at =
         let s = some w has in
         let same : s.0 ≡ p = (let a = s.1 in cc) in
         subst IsSlabPlace same s.2.place
+
     by_moves : (ms : List Move) → ((i : ℕ) (m : Move) (p : Place) → slice_get ms i ≡ Some m → m.to ≡ Some p → IsSlabPlace p)
         → (index k ≡ Some e → IsSlabPlace e.place) → moved_by ms k (index k) ≡ Some e → IsSlabPlace e.place
     by_moves [] targets was is = was is
     by_moves (m ∷ ms) targets was is = one_of (bytes_eq m.key k) m.to (λ p. targets 0 m p refl) (by_moves ms (λ i. targets (suc i)) was) is
       where
-      one_of : (b : Bool) (o : Option Place) → ((p : Place) → o ≡ Some p → IsSlabPlace p) → (moved_by ms k (index k) ≡ Some e → IsSlabPlace e.place)
-          → cond b (entry_at m.stamp o) (moved_by ms k (index k)) ≡ Some e → IsSlabPlace e.place
-      one_of true None targets2 rest is2 = absurd (cc)
-      one_of true (Some p) targets2 rest is2 =
-          let same : p ≡ e.place = (let a = is2 in cc) in
-          subst IsSlabPlace same (targets2 p refl)
-      one_of false o targets2 rest is2 = rest is2
+        one_of : (b : Bool) (o : Option Place) → ((p : Place) → o ≡ Some p → IsSlabPlace p) → (moved_by ms k (index k) ≡ Some e → IsSlabPlace e.place)
+            → cond b (entry_at m.stamp o) (moved_by ms k (index k)) ≡ Some e → IsSlabPlace e.place
+        one_of true None targets2 rest is2 = absurd (cc)
+        one_of true (Some p) targets2 rest is2 =
+            let same : p ≡ e.place = (let a = is2 in cc) in
+            subst IsSlabPlace same (targets2 p refl)
+        one_of false o targets2 rest is2 = rest is2
 
 -- reads leave the store open
 pub open_stays : {D : Type 0} (d : Ghosts D) (most : ℕ) (old new : D) (index : Index) (kept : List Room) (worker workers : ℕ)

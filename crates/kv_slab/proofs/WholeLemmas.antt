@@ -36,14 +36,14 @@ item_page class slot stamp key value old new number zeros content seven fits of 
     let low : 1 ≤ class = omega arith in
     let bytes = item_bytes class stamp key value in
     let size : length bytes ≡ 4096 = have_their_size.item all_classes class stamp key value high of
-        ∙ ap slot_size seven in
+    ∙ ap slot_size seven in
     let is = put_is class (page_of class slot) number zeros bytes content old new number_is zeros_are
-        size content_is set in
+    size content_is set in
     set_of_sets class slot bytes (Item stamp key value) stamp old new low high
     (items_again all_classes class stamp key value high fits of)
     (begin_with_stamp.item class stamp key value fits)
     (subst (λ im. Sets class slot bytes old im) (sym is) (page_sets class slot bytes old seven size))
-    where
+  where
     page_sets : (class slot : ℕ) (bytes : List ℕ) (old : Image) → class ≡ 7 → length bytes ≡ 4096
         → Sets class slot bytes old (with_page old class (page_of class slot) bytes)
     page_sets class slot bytes old seven size =
@@ -55,7 +55,7 @@ tombstone_whole : (class stamp : ℕ) (link : Option ℕ) → 7 ≤ class → cl
     → length (tombstone_bytes class stamp link) ≡ 4096
 tombstone_whole class stamp link low high = have_their_size.tombstone class stamp link
     ∙ whole_size class low
-    where
+  where
     whole_size : (class : ℕ) → 7 ≤ class → tombstone_size class ≡ 4096
     whole_size class low = elim (cases_lt class 8) [
       | inl seven ↦
@@ -76,7 +76,7 @@ tombstone_page class slot stamp link old new number zeros content low high fits 
     let bytes = tombstone_bytes class stamp link in
     let size = tombstone_whole class stamp link low high in
     let is = put_is class (page_of class slot) number zeros bytes content old new number_is zeros_are
-        size content_is set in
+    size content_is set in
     subst (λ im. IsSlotSet class slot (Tombstone stamp link) stamp old im) (sym is)
     (elim (cases_lt class 8) [
       | inl less ↦

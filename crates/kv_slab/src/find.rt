@@ -40,7 +40,9 @@ fn value_in(
 {
     match read_slot(page, class, offset) {
         Slot::Item {
-            key: found, value, ..
+            key: found,
+            value,
+            ..
         } => {
             if same(found, key) {
                 Ok(Bytes::copy(alloc, value)?)
@@ -127,9 +129,13 @@ fn large_value(
     ensures cause { IfErr result (λ fault. fault ≡ StepFault.NoMemory) }
 {
     match read_large(alloc, pages, class) {
-        Ok(Large::Item {
-            key: found, value, ..
-        }) => {
+        Ok(
+            Large::Item {
+                key: found,
+                value,
+                ..
+            },
+        ) => {
             if same(found.as_slice(), key) {
                 Ok(value)
             } else {

@@ -1,5 +1,6 @@
 ghost use Rattle.std.specs.Prelude.{◌≡◌, IfOk, IfErr};
-ghost use Rattle.kv_slab.specs.Pages.{IsOrder};
+ghost use Rattle.std.specs.List.Sorted.{IsSorted};
+ghost use Rattle.kv_slab.specs.Pages.{IsOrder, by_place};
 
 use crate::append::append;
 use crate::fault::StepFault;
@@ -10,6 +11,7 @@ use std::alloc::Global;
 /// number in the list.
 pub fn order_of(alloc: Global, pages: &[Page]) -> Result<Vec<(u8, u32, usize)>, StepFault>
     ensures ok { IfOk result (λ order. IsOrder pages.now order.items) }
+    ensures rising { IfOk result (λ order. IsSorted by_place order.items) }
     ensures cause { IfErr result (λ fault. fault ≡ StepFault.NoMemory) }
 {
     let mut order = Vec::new(alloc);

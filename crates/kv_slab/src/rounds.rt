@@ -12,11 +12,7 @@ use kv_cache::Cached;
 use kv_disk::Disk;
 
 /// Writes one of the pages.
-fn write_one<D: Disk>(
-    disk: &mut Cached<D>,
-    pages: &[Page],
-    number: usize,
-) -> Result<(), Failed>
+fn write_one<D: Disk>(disk: &mut Cached<D>, pages: &[Page], number: usize) -> Result<(), Failed>
     requires pages { ArePages pages.now }
     requires number { number < length pages.now }
     ensures writes { (page : Paged) → page ≡ get_or pages.now number page

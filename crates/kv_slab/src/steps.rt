@@ -194,4 +194,3 @@ pub fn apply_of<D: Disk, I: Index>(
     let _limit = limit;
     carry(disk, index, stacks, ends, plan)
 }
-

@@ -89,11 +89,7 @@ fn link_to_take<D: Disk>(
 }
 
 /// Takes the last free slot of the class, and where there is none the slot at its end.
-fn take_slot<D: Disk>(
-    disk: &mut Cached<D>,
-    class: u8,
-    room: &mut Room,
-) -> Result<u32, StepFault>
+fn take_slot<D: Disk>(disk: &mut Cached<D>, class: u8, room: &mut Room) -> Result<u32, StepFault>
     requires class { (1 ≤ class) × (class ≤ 11) }
     requires end { room.old.end ≤ 2 ^ 24 }
     ensures reads { ReadsAtMost ⟦<D as Disk>⟧ 1 disk.old.disk disk.new.disk }

@@ -49,8 +49,8 @@ loop-change-preserved g c =
     let items = c.in_ok-append.ensures.ok in
     let number : length c.loop-change.moves.items ≡ c.loop-change.change-index = c.loop-change.invariant.count in
     let here : slice_get c.args.changes.now (length c.loop-change.moves.items) ≡ Some c.change-item.result =
-        ap (slice_get c.args.changes.now) number
-        ∙ slice_get_read c.args.changes.now (length c.args.changes.now) c.loop-change.change-index c.change-item.result refl c.loop-change-test.true c.change-item.is in
+    ap (slice_get c.args.changes.now) number
+    ∙ slice_get_read c.args.changes.now (length c.args.changes.now) c.loop-change.change-index c.change-item.result refl c.loop-change-test.true c.change-item.is in
     record {
       reads = at_most-then g.D.Disk c.loop-change.change-index 1 (c.loop-change.change-index + 1) _ _ _ (omega arith) c.loop-change.invariant.reads c.assign_one.ensures.reads;
       ends = c.assign_one.ensures.ends;
@@ -67,8 +67,8 @@ loop-change-preserved g c =
       assigned = λ told start rooms placed linked.
           let reading = slot_at all_classes (g.D.Disk.seen c.args.disk.now.disk) in
           let goes : (old : Rooms) → AreRooms c.loop-change.rooms.items old → AreLinked reading old → (new : Rooms) × AreRooms c.assign_one.new.rooms.items new × GoesTo index c.change-item.result c.in_ok-step.step old new =
-              λ old kept old_linked. c.in_ok-step.ensures.goes told old kept
-              (subst (λ (image : Image). AreLinked (slot_at all_classes image) old) (sym (c.loop-change.invariant.reads.reads.seen told)) old_linked) in
+          λ old kept old_linked. c.in_ok-step.ensures.goes told old kept
+          (subst (λ (image : Image). AreLinked (slot_at all_classes image) old) (sym (c.loop-change.invariant.reads.reads.seen told)) old_linked) in
           subst (λ (ms : List Move). SoFar index reading c.assign_one.new.rooms.items start c.args.changes.now ms) (sym items)
           (assign-step index reading c.loop-change.rooms.items c.assign_one.new.rooms.items start c.args.changes.now c.loop-change.moves.items c.requires.distinct
           c.change-item.result c.in_ok-step.step here c.in_ok-step.ensures.is c.in_ok-step.ensures.left goes

@@ -1,9 +1,7 @@
 -- One key more.
-use Rattle.std.proofs.Common.{◌≡◌, ◌∙◌, ◌+◌, ◌++◌, ◌∷◌, [], ℕ, List, length, map, refl, sym, ap, arith}
-use Rattle.std.proofs.lemmas.List.{map-append}
+use Rattle.std.proofs.Common.{◌≡◌, ◌∙◌, length, refl, ap, arith}
 use Rattle.std.specs.List.{range_with_len}
 use Rattle.std.proofs.lemmas.List.Sorted.{length_permutation}
-use Rattle.kv_slab.proofs.HandOver.{range-more}
 use Rattle.kv_slab.proofs.OrderLemmas.{order_of_keys, keys_more}
 use Rattle.kv_slab.proofs.order.order_of.Goals as goal
 

@@ -30,8 +30,8 @@ pub first_one-requires-clause-hold : goal.first_one-requires-clause-hold
 first_one-requires-clause-hold g c =
     c.requires.hold c.loop-i.i c.index-changes-i.result (get_or c.args.moves.now c.loop-i.i c.index-moves-i.result)
     (record {
-        change = slice_get_read c.args.changes.now (length c.args.changes.now) c.loop-i.i c.index-changes-i.result refl c.loop-i-test.true c.index-changes-i.is;
-        move = slice_get-get_or c.args.moves.now c.loop-i.i c.index-moves-i.result (let a = c.loop-i-test.true in let b = c.requires.count in omega arith);
+      change = slice_get_read c.args.changes.now (length c.args.changes.now) c.loop-i.i c.index-changes-i.result refl c.loop-i-test.true c.index-changes-i.is;
+      move = slice_get-get_or c.args.moves.now c.loop-i.i c.index-moves-i.result (let a = c.loop-i-test.true in let b = c.requires.count in omega arith);
     })
 
 pub returns-in_err-first_one-clause-reads : goal.returns-in_err-first_one-clause-reads
@@ -47,8 +47,8 @@ loop-i-preserved g c =
           first_more c.args.changes.now c.args.moves.now c.loop-i.i (slot_at all_classes (g.D.Disk.seen c.args.disk.now.disk)) (slot_at all_classes (over (g.D.Disk.seen c.args.disk.now.disk) c.loop-i.pages.items))
           (slot_at all_classes (over (g.D.Disk.seen c.args.disk.now.disk) c.first_one.new.pages.items)) c.index-changes-i.result move apart
           (record {
-              change = slice_get_read c.args.changes.now (length c.args.changes.now) c.loop-i.i c.index-changes-i.result refl c.loop-i-test.true c.index-changes-i.is;
-              move = at;
+            change = slice_get_read c.args.changes.now (length c.args.changes.now) c.loop-i.i c.index-changes-i.result refl c.loop-i-test.true c.index-changes-i.is;
+            move = at;
           })
           (c.loop-i.invariant.first told apart)
           (subst
@@ -61,8 +61,8 @@ loop-i-preserved g c =
       whole = λ told apart. whole_more c.args.changes.now c.args.moves.now c.loop-i.i (over (g.D.Disk.seen c.args.disk.now.disk) c.loop-i.pages.items) (over (g.D.Disk.seen c.args.disk.now.disk) c.first_one.new.pages.items)
           c.index-changes-i.result move apart
           (record {
-              change = slice_get_read c.args.changes.now (length c.args.changes.now) c.loop-i.i c.index-changes-i.result refl c.loop-i-test.true c.index-changes-i.is;
-              move = at;
+            change = slice_get_read c.args.changes.now (length c.args.changes.now) c.loop-i.i c.index-changes-i.result refl c.loop-i-test.true c.index-changes-i.is;
+            move = at;
           })
           (subst (λ (im : Image). IsWhole c.index-changes-i.result (to_of move.to c.index-changes-i.result.value) (over im c.first_one.new.pages.items)) (c.loop-i.invariant.reads.reads.seen told) (c.in_ok-first_one.ensures.whole told))
           (subst (λ (im : Image). StillBeside move.to (over im c.loop-i.pages.items) (over im c.first_one.new.pages.items)) (c.loop-i.invariant.reads.reads.seen told) (c.in_ok-first_one.ensures.still told))

@@ -25,7 +25,7 @@ loop-i-init g c =
       later = λ _. subst (λ (ps : List Page). StillLater base (over base ps)) (sym c.new-pages.ensures.items) (λ cl p above limit out. refl);
       floor = λ _ bound up bounded. subst (λ (ps : List Page). HasFloorUpTo bound (over base ps)) (sym c.new-pages.ensures.items) bounded;
       pages = subst (λ (ps : List Page). ArePages ps) (sym c.new-pages.ensures.items) (record { apart = tt; of_slabs = tt });
-  count = let e : length c.new-pages.result.items ≡ 0 = ap length c.new-pages.ensures.items in omega arith;
+      count = let e : length c.new-pages.result.items ≡ 0 = ap length c.new-pages.ensures.items in omega arith;
     }
 
 pub second_one-requires-clause-place : goal.second_one-requires-clause-place

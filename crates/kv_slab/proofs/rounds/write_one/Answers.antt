@@ -1,5 +1,5 @@
 -- The page is the one with this number.
-use Rattle.std.proofs.Common.{◌≡◌, ◌∙◌, ℕ, List, [], get_or, sym, subst}
+use Rattle.std.proofs.Common.{◌∙◌, [], get_or, sym, subst}
 use Rattle.kv_disk.specs.Steps.{WritesPage}
 use Rattle.kv_slab.specs.declared.page.Page.{Page}
 use Rattle.kv_slab.proofs.PageLemmas.{of_slab_at, same_default}

@@ -1,5 +1,5 @@
-use Rattle.std.proofs.Common.{◌≡◌, ◌∙◌, ap, sym, subst, arith, inl, inr, List, [], refl, length, get_or, ℕ, ◌<◌, ◌+◌}
-use Rattle.kv_base.specs.Image.{Image, with_page}
+use Rattle.std.proofs.Common.{◌≡◌, ◌∙◌, ap, sym, subst, arith, inl, List, [], length, get_or, ℕ, ◌<◌, ◌+◌}
+use Rattle.kv_base.specs.Image.{Image}
 use Rattle.kv_base.specs.Crash.{LeavesOnly}
 use Rattle.kv_base.proofs.CrashLemmas.{started, stays, writes_too}
 use Rattle.kv_slab.specs.Images.{Mix}

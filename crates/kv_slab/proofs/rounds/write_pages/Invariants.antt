@@ -1,4 +1,4 @@
-use Rattle.std.proofs.Common.{◌≡◌, ◌≤◌, ◌+◌, IsTrue, take}
+use Rattle.std.proofs.Common.{◌≤◌, ◌+◌, IsTrue}
 use Rattle.kv_base.specs.Crash.{LeavesOnly}
 use Rattle.kv_slab.specs.Images.{Mix}
 use Rattle.kv_slab.specs.Pages.{over, AreWritten}

@@ -1,4 +1,4 @@
-use Rattle.std.proofs.Common.{◌≡◌, ◌*◌, length, sym, subst}
+use Rattle.std.proofs.Common.{◌*◌, length, sym, subst}
 use Rattle.std.specs.FinMap as finite
 use Rattle.kv_index.specs.Entries.{Entries}
 use Rattle.kv_slab.specs.Memory.{rooms_of}

@@ -28,10 +28,11 @@ use Rattle.kv_slab.proofs.store.carry.Goals.{After-carry_out}
 rounds : (g : Over) (c : After-carry_out g) (t : ℕ) (image : Image) → g.D.Disk.leaves c.carry_out.new.disk.disk t 0 0 (image 0 0)
     → InRounds (g.D.Disk.seen c.args.disk.now.disk) c.deref.result.now c.deref-3.result.now image
     → IsTrue g.D.Disk.tells × InRounds (g.D.Disk.seen c.args.disk.now.disk) c.args.plan.first.items c.args.plan.second.items image
-rounds g c t image may h =
-    ((g.met.D.Disk.told c.carry_out.new.disk.disk t 0 0 (image 0 0) may).0,
-      subst (λ (ps : List Page). InRounds (g.D.Disk.seen c.args.disk.now.disk) ps c.args.plan.second.items image) c.deref.ensures.value
-      (subst (λ (ps : List Page). InRounds (g.D.Disk.seen c.args.disk.now.disk) c.deref.result.now ps image) c.deref-3.ensures.value h))
+rounds g c t image may h = (
+  (g.met.D.Disk.told c.carry_out.new.disk.disk t 0 0 (image 0 0) may).0,
+  subst (λ (ps : List Page). InRounds (g.D.Disk.seen c.args.disk.now.disk) ps c.args.plan.second.items image) c.deref.ensures.value
+      (subst (λ (ps : List Page). InRounds (g.D.Disk.seen c.args.disk.now.disk) c.deref.result.now ps image) c.deref-3.ensures.value h),
+)
 
 moments : (g : Over) (c : After-carry_out g) (limit worker workers : ℕ) (changes : List Change)
     → IsOpen g.D.Disk.tells (g.D.Disk.seen c.args.disk.now.disk) (g.D.Disk.leaves c.args.disk.now.disk (g.D.Disk.calls c.args.disk.now.disk)) (finite.get (g.I.Index.entries c.args.index.now)) (rooms_of c.args.stacks.now.items c.args.ends.now.items) worker workers
@@ -91,12 +92,13 @@ returns-in-Ok-clause-lists g c = λ limit worker workers changes start planned t
     let first = c.args.plan.first.items in
     let second = c.args.plan.second.items in
     let rooms = (rooms_of c.args.plan.stacks.items c.args.plan.ends.items) in
-    let parts = planned.told told start kept stands.placed stands.linked in
-    (subst (λ (r : Rooms). AreRooms rooms r) (rooms_path seen index start worker workers changes moves first second rooms stands (may_of _ _ _ _ _ _ _ told planned.can) planned.moves planned.first planned.second parts) parts.rooms,
+    let parts = planned.told told start kept stands.placed stands.linked in (
+      subst (λ (r : Rooms). AreRooms rooms r) (rooms_path seen index start worker workers changes moves first second rooms stands (may_of _ _ _ _ _ _ _ told planned.can) planned.moves planned.first planned.second parts) parts.rooms,
       subst (λ (ix : Index). Stands (g.D.Disk.seen c.carry_out.new.disk.disk) ix (rooms_after index changes start) worker workers)
-      (sym (index_after seen index start worker workers changes moves first second rooms stands (may_of _ _ _ _ _ _ _ told planned.can) planned.moves planned.first planned.second parts now c.settle.ensures))
-      (subst (λ (im : Image). Stands im (λ k. moved (steps_of changes moves k) (index k)) (rooms_after index changes start) worker workers) (sym (seen_now g c told))
-      (stands_after seen index start worker workers changes moves first second rooms stands (may_of _ _ _ _ _ _ _ told planned.can) planned.moves planned.first planned.second parts)))
+          (sym (index_after seen index start worker workers changes moves first second rooms stands (may_of _ _ _ _ _ _ _ told planned.can) planned.moves planned.first planned.second parts now c.settle.ensures))
+          (subst (λ (im : Image). Stands im (λ k. moved (steps_of changes moves k) (index k)) (rooms_after index changes start) worker workers) (sym (seen_now g c told))
+          (stands_after seen index start worker workers changes moves first second rooms stands (may_of _ _ _ _ _ _ _ told planned.can) planned.moves planned.first planned.second parts)),
+    )
 
 pub returns-in-Ok-clause-opened : goal.returns-in-Ok-clause-opened
 returns-in-Ok-clause-opened g c = λ limit worker workers changes opened planned.

@@ -102,8 +102,8 @@ returns-clause-lengths g c =
     let kept : c.in_ok-now.now.items ≡ rooms_of c.args.stacks.now c.args.ends.now = c.in_ok-now.ensures.ok in
     let given = subst (λ (ms : List Move). HaveLengths (λ _. 0) (λ k. length (slots_left ms k)) c.assign.new.rooms.items c.leave.new.rooms.items) moves c.in_ok-links.ensures.counted in
     let all = lengths-given t (λ _. 0) (λ k. length (slots_left c.in_ok-moves.moves.items k)) c.in_ok-now.now.items c.assign.new.rooms.items c.leave.new.rooms.items
-        (ap length kept ∙ c.requires.ends.count ∙ sym c.in_ok-moves.ensures.ends.count) c.in_ok-moves.ensures.counted given in
+    (ap length kept ∙ c.requires.ends.count ∙ sym c.in_ok-moves.ensures.ends.count) c.in_ok-moves.ensures.counted given in
     let same = lengths-same t t (λ k. 0 + length (slots_left c.in_ok-moves.moves.items k)) (λ k. length (left_slots index changes k)) c.in_ok-now.now.items c.leave.new.rooms.items
-        (λ _. refl) (left_lengths index changes c.in_ok-moves.moves.items c.in_ok-moves.ensures.each.count c.in_ok-moves.ensures.lefts) all in
+    (λ _. refl) (left_lengths index changes c.in_ok-moves.moves.items c.in_ok-moves.ensures.each.count c.in_ok-moves.ensures.lefts) all in
     subst (λ (ks : List Room). HaveLengths t (λ k. length (left_slots index changes k)) (rooms_of c.args.stacks.now c.args.ends.now) ks) (sym (c.in_ok-stacks.ensures.ok ∙ c.deref-8.ensures.value))
     (subst (λ (ks : List Room). HaveLengths t (λ k. length (left_slots index changes k)) ks c.leave.new.rooms.items) kept same)

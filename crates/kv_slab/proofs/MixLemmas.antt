@@ -1,7 +1,8 @@
 -- Images inside a round, of which each page is as before it or as behind it.
 use Rattle.std.specs.List.{slice_get}
 use Rattle.std.proofs.Common.{◌≡◌, ◌⊎◌, inl, inr, ◌∙◌, ℕ, zero, suc, ◌+◌, ◌*◌, ◌%◌, ◌<◌, ◌≤◌}
-use Rattle.std.proofs.Common.{List, [], ◌∷◌, length, take, drop, Option, None, Some, refl, sym, ap, arith}
+use Rattle.std.proofs.Common.{List, [], ◌∷◌, length, take, drop, Option, None, Some, refl, sym, ap}
+use Rattle.std.proofs.Common.{arith}
 use Rattle.std.proofs.lemmas.Bool.{cases_eq}
 use Rattle.std.proofs.lemmas.Nat.{mod-mul-add}
 use Rattle.kv_base.specs.Image.{Image}
@@ -38,7 +39,8 @@ target_or_not (x ∷ moves) c s = elim (here_or_not x.to refl) [
       | inl same ↦ inl (q, is, same)
       | inr far ↦ inr (λ p to here.
           let e : q ≡ p = (let f = sym is ∙ to in cc) in
-          far (here.0 ∙ ap (λ (y : Place). y.class) (sym e)) (here.1 ∙ ap (λ (y : Place). y.slot) (sym e)))
+          far (here.0 ∙ ap (λ (y : Place). y.class) (sym e))
+              (here.1 ∙ ap (λ (y : Place). y.slot) (sym e)))
     ]
 
     none_of : ((p : Place) → x.to ≡ Some p → IsPlace c s p.class p.slot → ⊥)

@@ -161,7 +161,8 @@ set_of_sets class slot bytes now stamp old new low high reads stamp_is sets = re
 -- a small slot leaves the large ones alone
 pub sets_later : (class slot : ℕ) (bytes : List ℕ) (old new : Image) → class ≤ 7
     → Sets class slot bytes old new → StillLater old new
-sets_later class slot bytes old new high sets c p low limit out = sets.files c p (λ same. omega arith)
+sets_later class slot bytes old new high sets c p low limit out = sets.files c p
+    (λ same. omega arith)
 
 drop_all : {X : Type 0} (n : ℕ) (xs : List X) → length xs ≤ n → drop n xs ≡ []
 drop_all zero [] few = refl
@@ -190,7 +191,8 @@ pub sets_page : (image : Image) (slot : ℕ) (bytes : List ℕ) → length bytes
     → Sets 7 slot bytes image (with_page image 7 (page_of 7 slot) bytes)
 sets_page image slot bytes size =
     let new = with_page image 7 (page_of 7 slot) bytes in
-    let start : offset_of 7 slot ≡ 0 = (let e : slot % 1 ≡ 0 = omega arith in ap (λ n. n * 4096) e) in
+    let start : offset_of 7 slot ≡ 0 = (let e : slot % 1 ≡ 0 = omega arith in ap (λ n. n * 4096) e)
+        in
     record {
       here = ap (λ p. take (slot_size 7) (drop (offset_of 7 slot) p))
           (with_page-here image 7 (page_of 7 slot) bytes)
@@ -343,9 +345,11 @@ large_vacated class slot stamp link old low high fits small =
     let first = page_of class slot in
     let put = with_page old class first bytes in
     let later = map (λ p. old class p) (range_with_len (first + 1) (pages_in_slot class - 1)) in
-    let rest : map (λ p. put class p) (range_with_len (first + 1) (pages_in_slot class - 1)) ≡ later =
+    let rest : map (λ p. put class p) (range_with_len (first + 1) (pages_in_slot class - 1))
+        ≡ later =
     map_same (λ p. put class p) (λ p. old class p) (first + 1) (pages_in_slot class - 1)
-    (λ j below. with_page-other old class first bytes class (first + 1 + j) (λ _ same. omega arith)) in
+    (λ j below. with_page-other old class first bytes class (first + 1 + j) (λ _ same. omega arith))
+        in
     let there : large_slot put class slot ≡ bytes ∷ later =
     large_first put class slot
     ∙ ap (λ x. x ∷ map (λ p. put class p) (range_with_len (first + 1) (pages_in_slot class - 1)))
@@ -374,7 +378,8 @@ large_vacated class slot stamp link old low high fits small =
           (sym (heads_at-large put class slot low high ∙ ap (map stamp_field) there)) (
             (let e = begin_with_stamp.tombstone class stamp link fits in omega arith),
             (subst (λ heads. AllByRecursion (λ head. head ≤ bound) heads)
-                (heads_at-large old class slot low high ∙ ap (map stamp_field) (large_first old class slot))
+                (heads_at-large old class slot low high ∙ ap (map stamp_field)
+                    (large_first old class slot))
                 (bounded class slot)).1,
           )) bounded;
     }
@@ -385,7 +390,8 @@ pub vacated_later : (class slot : ℕ) (content : List ℕ) (old : Image) → 7 
 vacated_later class slot content old low c p above limit out =
     with_page-other old class (page_of class slot) content c p (λ same page.
     out (
-    let here : page_of class slot ≡ slot * pages_in_slot class = large_place class slot (omega arith) in
+    let here : page_of class slot ≡ slot * pages_in_slot class = large_place class slot
+        (omega arith) in
     let at : p ≡ slot * pages_in_slot c =
     page ∙ here ∙ ap (λ d. slot * pages_in_slot d) (sym same) in
     ap (λ n. n % pages_in_slot c) at ∙ multiple slot (pages_in_slot c) (pow_pos (c - 7))))

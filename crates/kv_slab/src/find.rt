@@ -34,7 +34,8 @@ fn value_in(
 ) -> Result<Bytes, StepFault>
     requires class { (1 ≤ class) × (class ≤ 7) }
     requires within { offset + slot_size class ≤ 4096 }
-    ensures value { IfOk result (λ v. (stamp : ℕ) (key value : List ℕ) → read_small all_classes class
+    ensures value { IfOk result (λ v. (stamp : ℕ) (key value : List ℕ)
+        → read_small all_classes class
         (take (slot_size class) (drop offset page.now)) ≡ Stored stamp key value → v ≡ value) }
     ensures cause { IfErr result (λ fault. fault ≡ StepFault.NoMemory) }
 {
@@ -197,7 +198,8 @@ pub fn find_item<D: Disk, I: Index>(
     key: &[u8],
 ) -> Result<Option<Item>, StepFault>
     requires places { ArePlaces (finite.get (I.entries index.now)) }
-    ensures answer { IsTrue D.tells → HasItems (D.seen disk.old.disk) (finite.get (I.entries index.now))
+    ensures answer { IsTrue D.tells → HasItems (D.seen disk.old.disk)
+        (finite.get (I.entries index.now))
         → IfOk result (λ item. IsAnswer item key.now
         (map_of (D.seen disk.old.disk) (finite.get (I.entries index.now)) key.now)) }
     ensures reads { ReadsAtMost ⟦<D as Disk>⟧ (reads_for (finite.get (I.entries index.now) key.now))
@@ -226,7 +228,8 @@ pub fn next_item<D: Disk, I: Index>(
     key: &[u8],
 ) -> Result<Option<Item>, StepFault>
     requires places { ArePlaces (finite.get (I.entries index.now)) }
-    ensures next { IsTrue D.tells → HasItems (D.seen disk.old.disk) (finite.get (I.entries index.now))
+    ensures next { IsTrue D.tells → HasItems (D.seen disk.old.disk)
+        (finite.get (I.entries index.now))
         → IfOk result (λ item. IsNextItem (I.entries index.now) (D.seen disk.old.disk) key.now
         item) }
     ensures none { HasNoneFrom (I.entries index.now) key.now → disk.new ≡ disk.old }

@@ -25,14 +25,16 @@ fn write_one<D: Disk>(disk: &mut Cached<D>, pages: &[Page], number: usize) -> Re
     disk.write(page.file, page.page, &page.content)
 }
 
-/// Writes pages, each once and in their order, and then syncs; without pages it makes no call. A crash meanwhile leaves each page
+/// Writes pages, each once and in their order, and then syncs; without pages it makes no call. A
+/// crash meanwhile leaves each page
 /// as before or as written.
 fn write_pages<D: Disk>(
     disk: &mut Cached<D>,
     pages: &[Page],
     order: &[(u8, u32, usize)],
 ) -> Result<(), Failed>
-    requires settled { Only (D.seen disk.old.disk) (D.leaves disk.old.disk (D.calls disk.old.disk)) }
+    requires settled { Only (D.seen disk.old.disk) (D.leaves disk.old.disk
+        (D.calls disk.old.disk)) }
     requires pages { ArePages pages.now }
     requires order { IsOrder pages.now order.now }
     ensures any_moment { LeavesOnly (D.calls disk.old.disk) (D.calls disk.new.disk)
@@ -63,7 +65,8 @@ pub fn carry_out<D: Disk>(
     second: &[Page],
     second_order: &[(u8, u32, usize)],
 ) -> Result<(), Failed>
-    requires settled { Only (D.seen disk.old.disk) (D.leaves disk.old.disk (D.calls disk.old.disk)) }
+    requires settled { Only (D.seen disk.old.disk) (D.leaves disk.old.disk
+        (D.calls disk.old.disk)) }
     requires first { ArePages first.now }
     requires first_order { IsOrder first.now first_order.now }
     requires second { ArePages second.now }

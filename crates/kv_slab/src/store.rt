@@ -1,4 +1,5 @@
-ghost use Rattle.std.specs.Prelude.{◌≡◌, ℕ, ◌+◌, ◌*◌, ◌<◌, ◌≤◌, ◌^◌, List, None, Some, IsTrue, IfOk, IfErr, OnOk};
+ghost use Rattle.std.specs.Prelude.{◌≡◌, ℕ, ◌+◌, ◌*◌, ◌<◌, ◌≤◌, ◌^◌, List, None, Some, IsTrue};
+ghost use Rattle.std.specs.Prelude.{IfOk, IfErr, OnOk};
 ghost use Rattle.std.specs.Prelude.{OnErr, length, []};
 ghost use Rattle.std.specs.FinMap as finite;
 ghost use Rattle.kv_base.specs.Fault.{HasCause};
@@ -7,13 +8,15 @@ ghost use Rattle.kv_model.specs.Layout.{all_classes};
 ghost use Rattle.kv_model.specs.Reading.{slot_at};
 ghost use Rattle.kv_slab.specs.declared.change.Change.{Change as Changed};
 ghost use Rattle.kv_slab.specs.Memory.{AreFilled, HaveLengths, rooms_of};
-ghost use Rattle.kv_slab.specs.Moves.{ArePlaces, AreDistinct, AllFit, AreAllMoves, AreUpTo, answer_after};
+ghost use Rattle.kv_slab.specs.Moves.{ArePlaces, AreDistinct, AllFit, AreAllMoves, AreUpTo};
+ghost use Rattle.kv_slab.specs.Moves.{answer_after};
 ghost use Rattle.kv_slab.specs.Floor.{HasFloorUpTo};
 ghost use Rattle.kv_slab.specs.Settled.{HasEntryAfter};
 ghost use Rattle.kv_slab.specs.Pages.{ArePages, IsOrder};
 ghost use Rattle.kv_disk.specs.Steps.{ReadsAtMost};
 ghost use Rattle.kv_slab.specs.Fault.{HasStepCause};
-ghost use Rattle.kv_slab.specs.Rooms.{Rooms, AreRooms, ArePlaced, AreLinked, rooms_after, needed, left_slots};
+ghost use Rattle.kv_slab.specs.Rooms.{Rooms, AreRooms, ArePlaced, AreLinked, rooms_after, needed};
+ghost use Rattle.kv_slab.specs.Rooms.{left_slots};
 ghost use Rattle.kv_slab.specs.Assigned.{AreEnds};
 ghost use Rattle.kv_slab.specs.Plans.{IsPlanned, PlannedFor};
 ghost use Rattle.kv_slab.specs.View.{IsOpen, IsOfWorker, OldOrNewMap, map_of};
@@ -155,7 +158,8 @@ pub fn carry<D: Disk, I: Index>(
         (rooms_of stacks.old.items ends.old.items) limit worker workers plan changes
         → IsTrue D.tells → AreRooms (rooms_of stacks.old.items ends.old.items) start
         → Stands (D.seen disk.old.disk) (finite.get (I.entries index.old)) start worker workers
-        → AreRooms (rooms_of stacks.new.items ends.new.items) (rooms_after (finite.get (I.entries index.old)) changes start)
+        → AreRooms (rooms_of stacks.new.items ends.new.items)
+            (rooms_after (finite.get (I.entries index.old)) changes start)
         × Stands (D.seen disk.new.disk) (finite.get (I.entries index.new))
         (rooms_after (finite.get (I.entries index.old)) changes start) worker workers) }
     ensures opened { OnOk result ((limit worker workers : ℕ) (changes : List Changed)
@@ -164,7 +168,8 @@ pub fn carry<D: Disk, I: Index>(
         → IsPlanned D.tells (D.seen disk.old.disk) (I.entries index.old) (I.spare index.old)
         (rooms_of stacks.old.items ends.old.items) limit worker workers plan changes
         → IsOpen D.tells (D.seen disk.new.disk) (D.leaves disk.new.disk (D.calls disk.new.disk))
-        (finite.get (I.entries index.new)) (rooms_of stacks.new.items ends.new.items) worker workers) }
+        (finite.get (I.entries index.new)) (rooms_of stacks.new.items ends.new.items) worker
+            workers) }
     ensures entries { OnOk result ((limit worker workers : ℕ) (changes : List Changed)
         → IsPlanned D.tells (D.seen disk.old.disk) (I.entries index.old) (I.spare index.old)
         (rooms_of stacks.old.items ends.old.items) limit worker workers plan changes

@@ -72,14 +72,14 @@ below_less : (x y : List ℕ) (es : Pairs) → order x y ≡ Less → T (below_a
 below_less x y [] p h = tt
 below_less x y (e ∷ es) p h =
     both_of _ _ (subst (λ r. T (is_lt r)) (sym (nat_list_cmp_total.trans x y e.0 p
-        (is_less _ (left_of _ _ h)))) tt) (below_less x y es p (right_of _ _ h))
+    (is_less _ (left_of _ _ h)))) tt) (below_less x y es p (right_of _ _ h))
 
 below_tied : (x y : List ℕ) (es : Pairs) → order x y ≡ Equal → T (below_all order y es)
     → T (below_all order x es)
 below_tied x y [] p h = tt
 below_tied x y (e ∷ es) p h =
     both_of _ _ (subst (λ r. T (is_lt r)) (sym (nat_list_cmp_total.congr x y e.0 p))
-        (left_of _ _ h)) (below_tied x y es p (right_of _ _ h))
+    (left_of _ _ h)) (below_tied x y es p (right_of _ _ h))
 
 find_none : (q : List ℕ) (es : Pairs) → T (below_all order q es) → find order q es ≡ None
 find_none q [] h = refl
@@ -98,25 +98,25 @@ count-put : (c : ℕ) (k : List ℕ) (v : Entry) (es : Pairs) → T (is_sorted o
 count-put c k v [] h = omega arith
 count-put c k v (e ∷ es) h =
     elim (order k e.0) as (λ r. order k e.0 ≡ r → count c (by_order r ((k, v) ∷ e ∷ es)
-        ((e.0, v) ∷ es) (e ∷ put order k v es)) + weight c (cond (is_eq r) (Some e.1)
-        (find order k es)) ≡ count c (e ∷ es) + weight c (Some v)) [
+    ((e.0, v) ∷ es) (e ∷ put order k v es)) + weight c (cond (is_eq r) (Some e.1)
+    (find order k es)) ≡ count c (e ∷ es) + weight c (Some v)) [
       | Less ↦ λ p.
           let none : weight c (find order k es) ≡ 0 = ap (weight c)
-              (find_none k es (below_less k e.0 es p (left_of _ _ h))) in
+          (find_none k es (below_less k e.0 es p (left_of _ _ h))) in
           let done : count c ((k, v) ∷ e ∷ es) + weight c (find order k es)
-              ≡ count c (e ∷ es) + weight c (Some v) = omega
-              (arith, none, count-cons c (k, v) (e ∷ es)) in
+          ≡ count c (e ∷ es) + weight c (Some v) = omega
+          (arith, none, count-cons c (k, v) (e ∷ es)) in
           done
       | Equal ↦ λ p.
           let done : count c ((e.0, v) ∷ es) + weight c (Some e.1)
-              ≡ count c (e ∷ es) + weight c (Some v) = omega
-              (arith, count-cons c (e.0, v) es, count-cons c e es) in
+          ≡ count c (e ∷ es) + weight c (Some v) = omega
+          (arith, count-cons c (e.0, v) es, count-cons c e es) in
           done
       | Greater ↦ λ p.
           let rest = count-put c k v es (right_of _ _ h) in
           let done : count c (e ∷ put order k v es) + weight c (find order k es)
-              ≡ count c (e ∷ es) + weight c (Some v) = omega
-              (arith, rest, count-cons c e (put order k v es), count-cons c e es) in
+          ≡ count c (e ∷ es) + weight c (Some v) = omega
+          (arith, rest, count-cons c e (put order k v es), count-cons c e es) in
           done
     ] refl
 
@@ -134,22 +134,22 @@ items-remove-o m k c None is =
     let same : remove m k ≡ m = same_map nat_list_cmp_total one_key (remove m k) m (λ q.
     ⊎_elim
     (λ (t : (bytes_eq k q ≡ true) × (k ≡ q)). ap (get (remove m k)) (sym t.1) ∙ get_removed m k
-        ∙ sym is ∙ ap (get m) t.1)
+    ∙ sym is ∙ ap (get m) t.1)
     (λ (t : (bytes_eq k q ≡ false) × (k ≡ q → ⊥)). get_removed_other m k q (λ e. t.1 (sym e)))
     (key_or_not k q)) in
     let count_same : items_in (remove m k) c ≡ items_in m c = ap (λ x. items_in x c) same in
     omega arith
 items-remove-o m k c (Some v) is =
     let same : m ≡ insert (remove m k) k v = same_map nat_list_cmp_total one_key m
-        (insert (remove m k) k v) (λ q.
+    (insert (remove m k) k v) (λ q.
     ⊎_elim
     (λ (t : (bytes_eq k q ≡ true) × (k ≡ q)). ap (get m) (sym t.1) ∙ is
-        ∙ sym (get_set (remove m k) k v) ∙ ap (get (insert (remove m k) k v)) t.1)
+    ∙ sym (get_set (remove m k) k v) ∙ ap (get (insert (remove m k) k v)) t.1)
     (λ (t : (bytes_eq k q ≡ false) × (k ≡ q → ⊥)). sym (get_set_other (remove m k) k v q
-        (λ e. t.1 (sym e)) ∙ get_removed_other m k q (λ e. t.1 (sym e))))
+    (λ e. t.1 (sym e)) ∙ get_removed_other m k q (λ e. t.1 (sym e))))
     (key_or_not k q)) in
     let count_same : items_in m c ≡ items_in (insert (remove m k) k v) c = ap (λ x. items_in x c)
-        same in
+    same in
     let put_again = items-insert (remove m k) k v c in
     let gone : weight c (get (remove m k) k) ≡ 0 = ap (weight c) (get_removed m k) in
     omega (arith, count_same, put_again, gone)
@@ -189,7 +189,7 @@ settled_is old new ms is = same_map nat_list_cmp_total one_key new (settled old 
 
 items-move : (m : Entries) (mv : Move) (c : ℕ) (o : Option Place) → mv.to ≡ o
     → items_in (put_move m mv o) c + weight c (get m mv.key)
-        ≡ items_in m c + weight c (entry_at mv.stamp o)
+    ≡ items_in m c + weight c (entry_at mv.stamp o)
 unfolding put_move
 items-move m mv c None to = items-remove m mv.key c ∙ (let e : items_in m c
     ≡ items_in m c + 0 = omega arith in e)
@@ -220,7 +220,7 @@ moved_none (mv ∷ ms) k o none =
     ⊎_elim
     (λ (same : (bytes_eq mv.key k ≡ true) × (mv.key ≡ k)). absurd (none 0 mv refl same.1))
     (λ (other : (bytes_eq mv.key k ≡ false) × (mv.key ≡ k → ⊥)). rw other.0
-        (moved_none ms k o (λ i. none (suc i))))
+    (moved_none ms k o (λ i. none (suc i))))
     (key_or_not mv.key k)
 
 pub items-settled : (m : Entries) (ms : List Move) (c : ℕ) → KeysApart ms
@@ -244,7 +244,7 @@ balance : (old : Option Entry) (item : Option ℕ) (to : Option Place) (stamp cl
     → (item ≡ None → to ≡ None)
     → ((k : ℕ) → item ≡ Some k → (p : Place) × (to ≡ Some p) × (p.class ≡ k))
     → weight class old + one_if (is_class (slot_class old item) class)
-        ≡ weight class (entry_at stamp to) + length (slots_of (left_for old item) class)
+    ≡ weight class (entry_at stamp to) + length (slots_of (left_for old item) class)
 balance None None to stamp class none some = ap (λ o. weight class (entry_at stamp o) + 0)
     (sym (none refl))
 balance None (Some k) to stamp class none some =
@@ -254,7 +254,7 @@ balance None (Some k) to stamp class none some =
     omega arith
 balance (Some e) None to stamp class none some =
     let f : 0 ≡ weight class (entry_at stamp to) = ap (λ o. weight class (entry_at stamp o))
-        (sym (none refl)) in
+    (sym (none refl)) in
     let g = one_or_none e.place class in
     omega arith
   where
@@ -288,8 +288,8 @@ balance (Some e) (Some k) to stamp class none some =
     by_stay : (b : Bool) → ((e.place.class == k) && is_small k) ≡ b → one_if (k == class)
         ≡ weight class (entry_at stamp to)
         → weight class (Some e) + one_if (is_class (slot_class (Some e) (Some k)) class)
-            ≡ weight class (entry_at stamp to) + length (slots_of (left_for (Some e) (Some k))
-            class)
+        ≡ weight class (entry_at stamp to) + length (slots_of (left_for (Some e) (Some k))
+        class)
     by_stay true stays now =
         let same : e.place.class ≡ k = same_of (e.place.class) k (is_small k) stays in
         let one : one_if (is_class (slot_class (Some e) (Some k)) class) ≡ 0 =
@@ -297,21 +297,21 @@ balance (Some e) (Some k) to stamp class none some =
         let two : length (slots_of (left_for (Some e) (Some k)) class) ≡ 0 =
         ap (λ (b : Bool). length (slots_of (if b then None else Some e.place) class)) stays in
         let three : weight class (Some e) ≡ one_if (k == class) = ap (λ n. one_if (n == class)) same
-            in
+        in
         omega (arith, now, one, two, three)
     by_stay false goes now =
         let one : one_if (is_class (slot_class (Some e) (Some k)) class) ≡ one_if (k == class) =
         ap (λ (b : Bool). one_if (is_class (if b then None else Some k) class)) goes in
         let two : length (slots_of (left_for (Some e) (Some k)) class) ≡ weight class (Some e) =
         ap (λ (b : Bool). length (slots_of (if b then None else Some e.place) class)) goes
-            ∙ one_or_none2 e.place class in
+        ∙ one_or_none2 e.place class in
         omega (arith, now, one, two)
 
 -- all changes of a batch
 pub balances : (m : Entries) (changes : List Change) (moves : List Move) (class : ℕ)
     → AreAllMoves (get m) changes moves
     → old_weights class m moves + needed (get m) changes class
-        ≡ new_weights class moves + length (left_slots (get m) changes class)
+    ≡ new_weights class moves + length (left_slots (get m) changes class)
 unfolding old_weights new_weights
 balances m [] [] class all = refl
 balances m [] (mv ∷ ms) class all = absurd (let e = all.count in omega arith)
@@ -326,14 +326,14 @@ balances m (c ∷ cs) (mv ∷ ms) class all =
     (λ none. no_item c mv c.value refl is.none is.some none)
     (λ k some. one_item c mv c.value refl is.some k some) in
     let old : weight class (get m mv.key) ≡ weight class (get m c.key) = ap
-        (λ k. weight class (get m k)) is.key in
+    (λ k. weight class (get m k)) is.key in
     let slots = length-append (slots_of (left_by (get m) c) class) (left_slots (get m) cs class) in
     omega (arith, here, rest, old, slots)
   where
     no_item : (c : Change) (mv : Move) (v : Option (List ℕ)) → c.value ≡ v
         → (c.value ≡ None → mv.to ≡ None)
         → ((w : List ℕ) → c.value ≡ Some w → (p : Place) × (mv.to ≡ Some p) × CanHold c w p)
-            → item_class c.key v ≡ None → mv.to ≡ None
+        → item_class c.key v ≡ None → mv.to ≡ None
     no_item c mv None has none some is = none has
     no_item c mv (Some w) has none some is =
         let p = some w has in
@@ -341,7 +341,7 @@ balances m (c ∷ cs) (mv ∷ ms) class all =
 
     one_item : (c : Change) (mv : Move) (v : Option (List ℕ)) → c.value ≡ v
         → ((w : List ℕ) → c.value ≡ Some w → (p : Place) × (mv.to ≡ Some p) × CanHold c w p)
-            → (k : ℕ) → item_class c.key v ≡ Some k
+        → (k : ℕ) → item_class c.key v ≡ Some k
         → (p : Place) × (mv.to ≡ Some p) × (p.class ≡ k)
     one_item c mv None has some k is = absurd (cc)
     one_item c mv (Some w) has some k is =
@@ -353,9 +353,9 @@ moves_apart : (m : Entries) (changes : List Change) (moves : List Move) → AreD
     → AreAllMoves (get m) changes moves → KeysApart moves
 moves_apart m changes moves distinct all i j p q at_i at_j same =
     let c = get_some changes i (let a = slice_get_within moves i p at_i in let n = all.count in
-        omega arith) in
+    omega arith) in
     let d = get_some changes j (let a = slice_get_within moves j q at_j in let n = all.count in
-        omega arith) in
+    omega arith) in
     let one = all.each i c.0 p (record { change = c.1; move = at_i }) in
     let two = all.each j d.0 q (record { change = d.1; move = at_j }) in
     distinct i j c.0 d.0 c.1 d.1 (sym one.key ∙ same ∙ two.key)
@@ -365,10 +365,10 @@ pub items_after : (old new : Entries) (changes : List Change) (moves : List Move
     → AreDistinct changes → AreAllMoves (get old) changes moves
     → ((k : List ℕ) → get new k ≡ moved_by moves k (get old k))
     → items_in new class + length (left_slots (get old) changes class)
-        ≡ items_in old class + needed (get old) changes class
+    ≡ items_in old class + needed (get old) changes class
 items_after old new changes moves class distinct all is =
     let same : items_in new class ≡ items_in (settled old moves) class = ap (λ m. items_in m class)
-        (settled_is old new moves is) in
+    (settled_is old new moves is) in
     let one = items-settled old moves class (moves_apart old changes moves distinct all) in
     let two = balances old changes moves class all in
     omega (arith, same, one, two)

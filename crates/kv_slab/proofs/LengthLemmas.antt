@@ -30,8 +30,11 @@ lengths-none t l rooms none c room now at there =
     let same : room ≡ now = (let a = at in let b = there in cc) in
     let zero_t = (none c).0 in
     let zero_l = (none c).1 in
-    subst (λ x. HasLength (t c) (l c) room x) same (record { list = omega arith; end = omega
-        arith })
+    subst (λ x. HasLength (t c) (l c) room x) same (record {
+      list = omega arith;
+      end = omega
+          arith;
+    })
 
 -- one class alone
 pub lengths-set : (t l : ℕ → ℕ) (rooms : List Room) (i : ℕ) (was room : Room) → slice_get rooms i
@@ -40,19 +43,22 @@ pub lengths-set : (t l : ℕ → ℕ) (rooms : List Room) (i : ℕ) (was room : 
 lengths-set t l rooms i was room at has none c old now old_at now_at = elim (cases_eq c i) [
   | inl same ↦
       let now_is : now ≡ room = set-here rooms i room now (ap (λ n. slice_get (set rooms i room) n)
-          (sym same) ∙ now_at) in
+      (sym same) ∙ now_at) in
       let old_is : old ≡ was = (let a = sym (ap (slice_get rooms) same)
-          ∙ old_at in let b = at in cc) in
+      ∙ old_at in let b = at in cc) in
       subst (λ n. HasLength (t n) (l n) old now) (sym same) (subst
-          (λ x. HasLength (t i) (l i) x now) (sym old_is) (subst (λ x. HasLength (t i) (l i) was x)
-          (sym now_is) has))
+      (λ x. HasLength (t i) (l i) x now) (sym old_is) (subst (λ x. HasLength (t i) (l i) was x)
+      (sym now_is) has))
   | inr other ↦
       let there : slice_get rooms c ≡ Some now = sym (set-other rooms i c room other) ∙ now_at in
       let one : old ≡ now = (let a = old_at in let b = there in cc) in
       let zero_t = (none c other).0 in
       let zero_l = (none c other).1 in
-      subst (λ x. HasLength (t c) (l c) old x) one (record { list = omega arith; end = omega
-          arith })
+      subst (λ x. HasLength (t c) (l c) old x) one (record {
+        list = omega arith;
+        end = omega
+            arith;
+      })
 ]
 
 -- more were taken
@@ -63,8 +69,11 @@ lengths-taken t u a b c size first next k old now old_at now_at =
     let mid = get_some b k (let e = slice_get_within a k old old_at in omega arith) in
     let one = first k old mid.0 old_at mid.1 in
     let two = next k mid.0 now mid.1 now_at in
-    record { list = omega (arith, one.list, two.list); end = omega
-        (arith, one.list, one.end, two.end) }
+    record {
+      list = omega (arith, one.list, two.list);
+      end = omega
+          (arith, one.list, one.end, two.end);
+    }
 
 -- then some were given back
 pub lengths-given : (t l m : ℕ → ℕ) (a b c : List Room) → length a ≡ length b → HaveLengths t l a b
@@ -81,7 +90,7 @@ pub lengths-same : (t u l m : ℕ → ℕ) (a b : List Room) → ((c : ℕ) → 
     → ((c : ℕ) → l c ≡ m c) → HaveLengths t l a b → HaveLengths u m a b
 lengths-same t u l m a b same_t same_l has k old now old_at now_at =
     subst (λ n. HasLength n (m k) old now) (same_t k) (subst (λ n. HasLength (t k) n old now)
-        (same_l k) (has k old now old_at now_at))
+    (same_l k) (has k old now old_at now_at))
 
 -- only the class itself
 pub new_in-none : (class c : ℕ) → (c ≡ class → ⊥) → new_in (Some class) c ≡ 0
@@ -111,35 +120,35 @@ needed-more index (x ∷ cs) (suc i) ch c at =
     let rest = needed-more index cs i ch c at in
     ap (λ k. needed index (take k (x ∷ cs)) c) n
     ∙ (let e : new_in (new_class index x) c + needed index (take (i + 1) cs) c
-        ≡ new_in (new_class index x) c + needed index (take i cs) c + new_in (new_class index ch) c
-        = omega arith in e)
+    ≡ new_in (new_class index x) c + needed index (take i cs) c + new_in (new_class index ch) c
+    = omega arith in e)
 
 pub left-more : (moves : List Move) (i : ℕ) (m : Move) (c : ℕ) → slice_get moves i ≡ Some m
     → length (slots_left (take (i + 1) moves) c) ≡ length (slots_left (take i moves) c) + left_in
-        m.left c
+    m.left c
 left-more [] i m c at = absurd (cc)
 left-more (x ∷ moves) zero m c at =
     let one : x ≡ m = cc in
     length-append (slots_of x.left c) [] ∙ (let e : left_in x.left c + 0
-        ≡ 0 + left_in x.left c = omega arith in e) ∙ ap (λ (y : Move). 0 + left_in y.left c) one
+    ≡ 0 + left_in x.left c = omega arith in e) ∙ ap (λ (y : Move). 0 + left_in y.left c) one
 left-more (x ∷ moves) (suc i) m c at =
     let n : suc i + 1 ≡ suc (i + 1) = omega arith in
     let rest = left-more moves i m c at in
     ap (λ k. length (slots_left (take k (x ∷ moves)) c)) n
     ∙ length-append (slots_of x.left c) (slots_left (take (i + 1) moves) c)
     ∙ (let e : length (slots_of x.left c) + length (slots_left (take (i + 1) moves) c)
-        ≡ length (slots_of x.left c) + length (slots_left (take i moves) c) + left_in m.left c =
-        omega arith in e)
+    ≡ length (slots_of x.left c) + length (slots_left (take i moves) c) + left_in m.left c =
+    omega arith in e)
     ∙ ap (λ k. k + left_in m.left c) (sym (length-append (slots_of x.left c)
-        (slots_left (take i moves) c)))
+    (slots_left (take i moves) c)))
 
 -- an end is still the number of the entries and of the free slots
 pub filled-after : (old new : Entries) (kept now : List Room) (changes : List Change)
     (moves : List Move) → length kept ≡ length now → AreDistinct changes
     → AreAllMoves (finite.get old) changes moves → ((k : List ℕ) → finite.get new k
-        ≡ moved_by moves k (finite.get old k))
+    ≡ moved_by moves k (finite.get old k))
     → HaveLengths (needed (finite.get old) changes) (λ c. length
-        (left_slots (finite.get old) changes c)) kept now
+    (left_slots (finite.get old) changes c)) kept now
     → AreFilled old kept → AreFilled new now
 filled-after old new kept now changes moves size distinct all is lengths filled class room at =
     let was = get_some kept class (let e = slice_get_within now class room at in omega arith) in
@@ -164,9 +173,9 @@ pair-step P changes moves ch mv here is each i c m pair = elim (push_get moves m
 pub left_lengths : (index : Index) (changes : List Change) (moves : List Move) → length moves
     ≡ length changes
     → ((i : ℕ) (c : Change) (m : Move) → IsPair changes moves i c m → m.left ≡ left_by index c)
-        → (class : ℕ)
+    → (class : ℕ)
     → 0 + length (slots_left moves class) ≡ length (left_slots index changes class)
 left_lengths index changes moves count left class =
     let same : length (slots_left moves class) ≡ length (left_slots index changes class) = ap length
-        (left_same index changes moves class count left) in
+    (left_same index changes moves class count left) in
     omega arith

@@ -40,7 +40,7 @@ target_or_not (x ∷ moves) c s = elim (here_or_not x.to refl) [
       | inr far ↦ inr (λ p to here.
           let e : q ≡ p = (let f = sym is ∙ to in cc) in
           far (here.0 ∙ ap (λ (y : Place). y.class) (sym e))
-              (here.1 ∙ ap (λ (y : Place). y.slot) (sym e)))
+          (here.1 ∙ ap (λ (y : Place). y.slot) (sym e)))
     ]
 
     none_of : ((p : Place) → x.to ≡ Some p → IsPlace c s p.class p.slot → ⊥)

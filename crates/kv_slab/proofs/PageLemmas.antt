@@ -42,16 +42,16 @@ written_over image [] apart = same_image image (over image []) (λ f p. refl)
 written_over image (held ∷ rest) apart =
     written_over (with_page image held.file held.page held.content) rest apart.1
     ∙ same_image (over (with_page image held.file held.page held.content) rest)
-        (over image (held ∷ rest)) (λ f p.
+    (over image (held ∷ rest)) (λ f p.
     ⊎_elim
     (λ (t : (is_at f p held ≡ true) × (held.file ≡ f) × (held.page ≡ p)).
     let missing : Missing f p rest = subst (λ (g : ℕ). Missing g p rest) t.1
-        (subst (λ (q : ℕ). Missing held.file q rest) t.2 apart.0) in
+    (subst (λ (q : ℕ). Missing held.file q rest) t.2 apart.0) in
     rw t.0 (over_missing (with_page image held.file held.page held.content) rest f p missing
-        ∙ with_page-at image held.file held.page held.content f p (sym t.1) (sym t.2)))
+    ∙ with_page-at image held.file held.page held.content f p (sym t.1) (sym t.2)))
     (λ (t : (is_at f p held ≡ false) × ((f ≡ held.file) → (p ≡ held.page) → ⊥)).
     rw t.0 (over_base (with_page image held.file held.page held.content) image rest f p
-        (with_page-other image held.file held.page held.content f p t.1)))
+    (with_page-other image held.file held.page held.content f p t.1)))
     (at_place f p held))
 
 written_push : (image : Image) (pages : List Page) (page : Page)
@@ -64,11 +64,11 @@ written_push image (first ∷ pages) page = written_push (with_page image first.
 pub written_more : (image : Image) (pages : List Page) (i : ℕ) (page : Page) → i < length pages
     → page ≡ get_or pages i page
     → written image (take (i + 1) pages) ≡ with_page (written image (take i pages)) page.file
-        page.page page.content
+    page.page page.content
 written_more image pages i page below is =
     ap (λ (ps : List Page). written image ps) (take_more pages i page below
-        ∙ ap (λ (p : Page). take i pages ++ p ∷ []) (sym is))
-        ∙ written_push image (take i pages) page
+    ∙ ap (λ (p : Page). take i pages ++ p ∷ []) (sym is))
+    ∙ written_push image (take i pages) page
 
 missing_at : (pages : List Page) (i : ℕ) (page : Page) (f p : ℕ) → i < length pages → page
     ≡ get_or pages i page → Missing f p pages → is_at f p page ≡ false
@@ -91,11 +91,11 @@ elsewhere f p g q x e far =
     (λ (t : (is_at f p x ≡ true) × (x.file ≡ f) × (x.page ≡ p)).
     ⊎_elim
     (λ (u : (is_at g q x ≡ true) × (x.file ≡ g) × (x.page ≡ q)). absurd
-        (far (sym u.1 ∙ t.1) (sym u.2 ∙ t.2)))
+    (far (sym u.1 ∙ t.1) (sym u.2 ∙ t.2)))
     (λ (u : (is_at g q x ≡ false) × ((g ≡ x.file) → (q ≡ x.page) → ⊥)). u.0)
     (at_place g q x))
     (λ (t : (is_at f p x ≡ false) × ((f ≡ x.file) → (p ≡ x.page) → ⊥)). absurd
-        (false≢true (sym t.0 ∙ e)))
+    (false≢true (sym t.0 ∙ e)))
     (at_place f p x)
 
 -- a page of the list is what the image has there under the list
@@ -105,19 +105,26 @@ pub over_at : (image : Image) (pages : List Page) (i : ℕ) (page : Page) → Ar
 over_at image [] i page apart below is = absurd (omega arith)
 over_at image (held ∷ rest) zero page apart below is =
     ⊎_elim
-    (λ (t : (is_at page.file page.page held ≡ true) × (held.file ≡ page.file) × (held.page ≡ page.page)). rw t.0 (ap (λ (q : Page). q.content) (sym is)))
-    (λ (t : (is_at page.file page.page held ≡ false) × ((page.file ≡ held.file) → (page.page ≡ held.page) → ⊥)). absurd (t.1 (ap (λ (q : Page). q.file) is) (ap (λ (q : Page). q.page) is)))
+    (λ (t : (is_at page.file page.page held ≡ true) × (held.file ≡ page.file) × (held.page
+    ≡ page.page)). rw t.0 (ap (λ (q : Page). q.content) (sym is)))
+    (λ (t : (is_at page.file page.page held ≡ false) × ((page.file ≡ held.file) → (page.page
+    ≡ held.page) → ⊥)). absurd (t.1 (ap (λ (q : Page). q.file) is) (ap (λ (q : Page). q.page)
+    is)))
     (at_place page.file page.page held)
 over_at image (held ∷ rest) (suc i) page apart below is =
     ⊎_elim
-    (λ (t : (is_at page.file page.page held ≡ true) × (held.file ≡ page.file) × (held.page ≡ page.page)).
+    (λ (t : (is_at page.file page.page held ≡ true) × (held.file ≡ page.file) × (held.page
+    ≡ page.page)).
     let miss : is_at held.file held.page page ≡ false = missing_at rest i page held.file held.page
-        (omega arith) is apart.0 in
+    (omega arith) is apart.0 in
     ⊎_elim
-    (λ (u : (is_at held.file held.page page ≡ true) × (page.file ≡ held.file) × (page.page ≡ held.page)). absurd (false≢true (sym miss ∙ u.0)))
-    (λ (u : (is_at held.file held.page page ≡ false) × ((held.file ≡ page.file) → (held.page ≡ page.page) → ⊥)). absurd (u.1 t.1 t.2))
+    (λ (u : (is_at held.file held.page page ≡ true) × (page.file ≡ held.file) × (page.page
+    ≡ held.page)). absurd (false≢true (sym miss ∙ u.0)))
+    (λ (u : (is_at held.file held.page page ≡ false) × ((held.file ≡ page.file) → (held.page
+    ≡ page.page) → ⊥)). absurd (u.1 t.1 t.2))
     (at_place held.file held.page page))
-    (λ (t : (is_at page.file page.page held ≡ false) × ((page.file ≡ held.file) → (page.page ≡ held.page) → ⊥)). rw t.0 (over_at image rest i page apart.1 (omega arith) is))
+    (λ (t : (is_at page.file page.page held ≡ false) × ((page.file ≡ held.file) → (page.page
+    ≡ held.page) → ⊥)). rw t.0 (over_at image rest i page apart.1 (omega arith) is))
     (at_place page.file page.page held)
 
 pub still : (old : Image) (pages : List Page) (i : ℕ) (page : Page) → AreApart pages
@@ -129,10 +136,10 @@ still old pages i page apart below is was mix f p =
     inr (with_page-at was page.file page.page page.content f p one.0 one.1
     ∙ sym (over_at old pages i page apart below is)
     ∙ ap (λ (g : ℕ). over old pages g page.page) (sym one.0)
-        ∙ ap (λ (q : ℕ). over old pages f q) (sym one.1)))
+    ∙ ap (λ (q : ℕ). over old pages f q) (sym one.1)))
     (λ (apart : (f ≡ page.file) → (p ≡ page.page) → ⊥).
     subst (λ (c : List ℕ). (c ≡ old f p) ⊎ (c ≡ over old pages f p))
-        (sym (with_page-other was page.file page.page page.content f p apart)) (mix f p))
+    (sym (with_page-other was page.file page.page page.content f p apart)) (mix f p))
     (one_place f p page.file page.page)
 
 -- what holds anyhow
@@ -150,9 +157,9 @@ missing_here f p [] h = tt
 missing_here f p (x ∷ xs) h =
     ⊎_elim
     (λ (t : (is_at f p x ≡ true) × (x.file ≡ f) × (x.page ≡ p)). let h2 = rw t.0 at h in absurd
-        (omega arith))
+    (omega arith))
     (λ (t : (is_at f p x ≡ false) × ((f ≡ x.file) → (p ≡ x.page) → ⊥)). let h2 = rw t.0 at h in
-        (t.0, missing_here f p xs (omega arith)))
+    (t.0, missing_here f p xs (omega arith)))
     (at_place f p x)
 
 pub missing_of : (f p : ℕ) (xs : List Page) → position (is_at f p) xs ≡ None → Missing f p xs
@@ -165,7 +172,7 @@ first_not f p x xs i missing below here =
     ⊎_elim
     (λ (t : (is_at f p x ≡ true) × (x.file ≡ f) × (x.page ≡ p)).
     let m : Missing f p xs = subst (λ (g : ℕ). Missing g p xs) t.1
-        (subst (λ (q : ℕ). Missing x.file q xs) t.2 missing) in
+    (subst (λ (q : ℕ). Missing x.file q xs) t.2 missing) in
     absurd (false≢true (sym (missing_get xs i f p x below m) ∙ here x)))
     (λ (t : (is_at f p x ≡ false) × ((f ≡ x.file) → (p ≡ x.page) → ⊥)). t.0)
     (at_place f p x)
@@ -177,7 +184,7 @@ set_here image f p [] i new apart below here e = absurd (omega arith)
 set_here image f p (x ∷ xs) zero new apart below here e = rw e
 set_here image f p (x ∷ xs) (suc i) new apart below here e =
     rw (first_not f p x xs i apart.0 (omega arith) here) (set_here image f p xs i new apart.1
-        (omega arith) here e)
+    (omega arith) here e)
 
 set_other : (image : Image) (f p : ℕ) (xs : List Page) (i : ℕ) (new : Page) (g q : ℕ)
     → i < length xs → ((d : Page) → is_at f p (get_or xs i d) ≡ true) → is_at f p new ≡ true
@@ -198,11 +205,11 @@ over_set image f p xs i new apart has e d =
     ⊎_elim
     (λ (one : (g ≡ f) × (q ≡ p)).
     ap (λ (h : ℕ). over image (set xs i new) h q) one.0 ∙ ap
-        (λ (r : ℕ). over image (set xs i new) f r) one.1
+    (λ (r : ℕ). over image (set xs i new) f r) one.1
     ∙ set_here image f p xs i new apart has.below has.here at
     ∙ sym (with_page-at (over image xs) f p new.content g q one.0 one.1))
     (λ (far : (g ≡ f) → (q ≡ p) → ⊥). set_other image f p xs i new g q has.below has.here at far
-        ∙ sym (with_page-other (over image xs) f p new.content g q far))
+    ∙ sym (with_page-other (over image xs) f p new.content g q far))
     (one_place g q f p))
 
 pub over_there : (image : Image) (f p : ℕ) (xs : List Page) (i : ℕ) (d : Page) → AreApart xs
@@ -211,8 +218,10 @@ over_there image f p [] i d apart has = absurd (let h = has.below in omega arith
 over_there image f p (x ∷ xs) zero d apart has = rw (has.here d)
 over_there image f p (x ∷ xs) (suc i) d apart has =
     rw (first_not f p x xs i apart.0 (let h = has.below in omega arith) has.here)
-        (over_there image f p xs i d apart.1 (record { below = let h = has.below in omega arith;
-        here = has.here }))
+    (over_there image f p xs i d apart.1 (record {
+      below = let h = has.below in omega arith;
+      here = has.here;
+    }))
 
 missing_set : (f p : ℕ) (xs : List Page) (i : ℕ) (new : Page)
     → ((d : Page) → is_at f p new ≡ is_at f p (get_or xs i d)) → Missing f p xs
@@ -225,9 +234,11 @@ pub apart_set : (xs : List Page) (i : ℕ) (new : Page) → ((d : Page)
     → (new.file ≡ (get_or xs i d).file) × (new.page ≡ (get_or xs i d).page)) → AreApart xs
     → AreApart (set xs i new)
 apart_set [] i new same apart = apart
-apart_set (x ∷ xs) zero new same apart =
-    (subst (λ (g : ℕ). Missing g new.page xs) (sym (same x).0)
-        (subst (λ (q : ℕ). Missing x.file q xs) (sym (same x).1) apart.0), apart.1)
+apart_set (x ∷ xs) zero new same apart = (
+  subst (λ (g : ℕ). Missing g new.page xs) (sym (same x).0)
+      (subst (λ (q : ℕ). Missing x.file q xs) (sym (same x).1) apart.0),
+  apart.1,
+)
 apart_set (x ∷ xs) (suc i) new same apart = (
   missing_set x.file x.page xs i new (λ d. ap (λ (g : ℕ). (g == x.file) && (new.page == x.page))
       (same d).0 ∙ ap (λ (q : ℕ). ((get_or xs i d).file == x.file) && (q == x.page)) (same d).1)
@@ -256,11 +267,11 @@ over_push image f p xs new missing e d same =
     ⊎_elim
     (λ (one : (g ≡ f) × (q ≡ p)).
     ap (λ (h : ℕ). over image (xs ++ new ∷ []) h q) one.0 ∙ ap
-        (λ (r : ℕ). over image (xs ++ new ∷ []) f r) one.1
+    (λ (r : ℕ). over image (xs ++ new ∷ []) f r) one.1
     ∙ push_here image f p xs new at missing ∙ same
     ∙ ap (λ (h : ℕ). over image xs h p) (sym one.0) ∙ ap (λ (r : ℕ). over image xs g r) (sym one.1))
     (λ (far : (g ≡ f) → (q ≡ p) → ⊥). push_other image f p xs new g q
-        (elsewhere f p g q new at far))
+    (elsewhere f p g q new at far))
     (one_place g q f p))
 
 -- a page more that is another than the image has
@@ -273,7 +284,7 @@ over_push_set image f p xs new missing e d =
     ⊎_elim
     (λ (one : (g ≡ f) × (q ≡ p)).
     ap (λ (h : ℕ). over image (xs ++ new ∷ []) h q) one.0 ∙ ap
-        (λ (r : ℕ). over image (xs ++ new ∷ []) f r) one.1
+    (λ (r : ℕ). over image (xs ++ new ∷ []) f r) one.1
     ∙ push_here image f p xs new at missing
     ∙ sym (with_page-at (over image xs) f p new.content g q one.0 one.1))
     (λ (far : (g ≡ f) → (q ≡ p) → ⊥). push_other image f p xs new g q (elsewhere f p g q new at far)
@@ -291,15 +302,20 @@ apart_push f p [] new m e d apart = (tt, tt)
 apart_push f p (x ∷ xs) new m e d apart =
     let at : is_at f p new ≡ true = rw (eq-eqb new.file f e, eq-eqb new.page p d) in
     let far : (x.file ≡ f) → (x.page ≡ p) → ⊥ = λ a b. false≢true
-        (sym m.0 ∙ (rw (eq-eqb x.file f a, eq-eqb x.page p b) refl)) in
-    (missing_push x.file x.page xs new apart.0 (elsewhere f p x.file x.page new at far), apart_push
-        f p xs new m.1 e d apart.1)
+    (sym m.0 ∙ (rw (eq-eqb x.file f a, eq-eqb x.page p b) refl)) in (
+      missing_push x.file x.page xs new apart.0 (elsewhere f p x.file x.page new at far),
+      apart_push
+          f p xs new m.1 e d apart.1,
+    )
 
 -- the last is the new one
 pub has_push : (f p : ℕ) (xs : List Page) (new : Page) → new.file ≡ f → new.page ≡ p
     → HasAt (xs ++ new ∷ []) (length xs) f p
-has_push f p [] new e d = record { below = omega arith; here = λ _. rw
-    (eq-eqb new.file f e, eq-eqb new.page p d) }
+has_push f p [] new e d = record {
+  below = omega arith;
+  here = λ _. rw
+      (eq-eqb new.file f e, eq-eqb new.page p d);
+}
 has_push f p (x ∷ xs) new e d =
     let r = has_push f p xs new e d in
     record { below = let b = r.below in omega arith; here = r.here }
@@ -345,8 +361,11 @@ same_place : (ys : List Page) (i : ℕ) (was new : Page) → i < length ys → w
     → new.file ≡ was.file → new.page ≡ was.page → (d : Page) → (new.file ≡ (get_or ys i d).file)
     × (new.page ≡ (get_or ys i d).page)
 same_place [] i was new below is e d other = absurd (omega arith)
-same_place (y ∷ ys) zero was new below is e d other = (e ∙ ap (λ (q : Page). q.file) is, d
-    ∙ ap (λ (q : Page). q.page) is)
+same_place (y ∷ ys) zero was new below is e d other = (
+  e ∙ ap (λ (q : Page). q.file) is,
+  d
+      ∙ ap (λ (q : Page). q.page) is,
+)
 same_place (y ∷ ys) (suc i) was new below is e d other = same_place ys i was new (omega arith) is e
     d other
 
@@ -355,15 +374,15 @@ at_get f p x e =
     ⊎_elim
     (λ (t : (is_at f p x ≡ true) × (x.file ≡ f) × (x.page ≡ p)). (t.1, t.2))
     (λ (t : (is_at f p x ≡ false) × ((f ≡ x.file) → (p ≡ x.page) → ⊥)). absurd
-        (false≢true (sym t.0 ∙ e)))
+    (false≢true (sym t.0 ∙ e)))
     (at_place f p x)
 
 pub set_slot : (base : Image) (xs ys : List Page) (i class slot page : ℕ) (bytes : List ℕ)
     (was new : Page) → class ≤ 7 → AreApart ys → HasAt ys i class page → page ≡ page_of class slot
     → was ≡ get_or ys i was → new.file ≡ was.file → new.page ≡ was.page → length was.content ≡ 4096
-        → length bytes ≡ slot_size class
+    → length bytes ≡ slot_size class
     → new.content ≡ overwritten was.content (offset_of class slot) bytes → over base ys
-        ≡ over base xs
+    ≡ over base xs
     → Sets class slot bytes (over base xs) (over base (set ys i new))
 set_slot base xs ys i class slot page bytes was new high apart has is value e d size fits puts same
     =
@@ -372,14 +391,14 @@ set_slot base xs ys i class slot page bytes was new high apart has is value e d 
     let number : new.page ≡ page = d ∙ ap (λ (q : Page). q.page) value ∙ place.1 in
     let content : was.content ≡ over base ys class (page_of class slot) =
     ap (λ (q : Page). q.content) value ∙ over_there base class page ys i was apart has
-        ∙ ap (λ (q : ℕ). over base ys class q) is in
+    ∙ ap (λ (q : ℕ). over base ys class q) is in
     let sets = sets_slot (over base ys) class slot bytes new.content high
-        (ap length (sym content) ∙ size) fits
+    (ap length (sym content) ∙ size) fits
     (puts ∙ ap (λ (c : List ℕ). overwritten c (offset_of class slot) bytes) content) in
     let image : over base (set ys i new) ≡ with_page (over base ys) class (page_of class slot)
-        new.content =
+    new.content =
     over_set base class page ys i new apart has file number ∙ ap
-        (λ (q : ℕ). with_page (over base ys) class q new.content) is in
+    (λ (q : ℕ). with_page (over base ys) class q new.content) is in
     subst (λ (im : Image). Sets class slot bytes im (over base (set ys i new))) same
     (subst (λ (im : Image). Sets class slot bytes (over base ys) im) (sym image) sets)
 
@@ -397,11 +416,16 @@ pub of_slabs_set : (xs : List Page) (i : ℕ) (was new : Page) → i < length xs
 of_slabs_set [] i was new below is e d of = of
 of_slabs_set (x ∷ xs) zero was new below is e d of =
     let file : x.file ≡ new.file = sym (e ∙ ap (λ (q : Page). q.file) is) in
-    let page : x.page ≡ new.page = sym (d ∙ ap (λ (q : Page). q.page) is) in
-    (subst (λ (f : ℕ). (1 ≤ f) × (f ≤ 11) × (new.page < most_pages f)) file
-        (subst (λ (p : ℕ). (1 ≤ x.file) × (x.file ≤ 11) × (p < most_pages x.file)) page of.0), of.1)
-of_slabs_set (x ∷ xs) (suc i) was new below is e d of = (of.0, of_slabs_set xs i was new
-    (omega arith) is e d of.1)
+    let page : x.page ≡ new.page = sym (d ∙ ap (λ (q : Page). q.page) is) in (
+      subst (λ (f : ℕ). (1 ≤ f) × (f ≤ 11) × (new.page < most_pages f)) file
+          (subst (λ (p : ℕ). (1 ≤ x.file) × (x.file ≤ 11) × (p < most_pages x.file)) page of.0),
+      of.1,
+    )
+of_slabs_set (x ∷ xs) (suc i) was new below is e d of = (
+  of.0,
+  of_slabs_set xs i was new
+      (omega arith) is e d of.1,
+)
 
 of_slabs_push : (xs : List Page) (new : Page) → IsOfSlab new → AreOfSlabs xs
     → AreOfSlabs (xs ++ new ∷ [])
@@ -414,7 +438,7 @@ pub pages_pushed : (f p : ℕ) (xs ys : List Page) (ok : Bool) (new : Page) → 
 pages_pushed f p xs ys ok new done is missing e d low high small pages =
     let longer : ys ≡ xs ++ new ∷ [] = rw done at is in
     let of : IsOfSlab new = subst (λ (g : ℕ). (1 ≤ g) × (g ≤ 11) × (new.page < most_pages g))
-        (sym e)
+    (sym e)
     (subst (λ (q : ℕ). (1 ≤ f) × (f ≤ 11) × (q < most_pages f)) (sym d) (low, high, small)) in
     record {
       apart = apart_pushed f p xs ys ok new done is missing e d pages.apart;
@@ -437,11 +461,11 @@ over_beside image (held ∷ rest) f p of out =
     ⊎_elim
     (λ (t : (is_at f p held ≡ true) × (held.file ≡ f) × (held.page ≡ p)).
     let here : (1 ≤ f) × (f ≤ 11) × (p < most_pages f) = subst
-        (λ (g : ℕ). (1 ≤ g) × (g ≤ 11) × (p < most_pages g)) t.1
+    (λ (g : ℕ). (1 ≤ g) × (g ≤ 11) × (p < most_pages g)) t.1
     (subst (λ (q : ℕ). (1 ≤ held.file) × (held.file ≤ 11) × (q < most_pages held.file)) t.2 of.0) in
     absurd (out here.0 here.1 here.2))
     (λ (t : (is_at f p held ≡ false) × ((f ≡ held.file) → (p ≡ held.page) → ⊥)). rw t.0
-        (over_beside image rest f p of.1 out))
+    (over_beside image rest f p of.1 out))
     (at_place f p held)
 
 -- the pages of the slots below 2^24

@@ -192,7 +192,7 @@ pub sets_page : (image : Image) (slot : ℕ) (bytes : List ℕ) → length bytes
 sets_page image slot bytes size =
     let new = with_page image 7 (page_of 7 slot) bytes in
     let start : offset_of 7 slot ≡ 0 = (let e : slot % 1 ≡ 0 = omega arith in ap (λ n. n * 4096) e)
-        in
+    in
     record {
       here = ap (λ p. take (slot_size 7) (drop (offset_of 7 slot) p))
           (with_page-here image 7 (page_of 7 slot) bytes)
@@ -346,10 +346,10 @@ large_vacated class slot stamp link old low high fits small =
     let put = with_page old class first bytes in
     let later = map (λ p. old class p) (range_with_len (first + 1) (pages_in_slot class - 1)) in
     let rest : map (λ p. put class p) (range_with_len (first + 1) (pages_in_slot class - 1))
-        ≡ later =
+    ≡ later =
     map_same (λ p. put class p) (λ p. old class p) (first + 1) (pages_in_slot class - 1)
     (λ j below. with_page-other old class first bytes class (first + 1 + j) (λ _ same. omega arith))
-        in
+    in
     let there : large_slot put class slot ≡ bytes ∷ later =
     large_first put class slot
     ∙ ap (λ x. x ∷ map (λ p. put class p) (range_with_len (first + 1) (pages_in_slot class - 1)))
@@ -379,7 +379,7 @@ large_vacated class slot stamp link old low high fits small =
             (let e = begin_with_stamp.tombstone class stamp link fits in omega arith),
             (subst (λ heads. AllByRecursion (λ head. head ≤ bound) heads)
                 (heads_at-large old class slot low high ∙ ap (map stamp_field)
-                    (large_first old class slot))
+                (large_first old class slot))
                 (bounded class slot)).1,
           )) bounded;
     }
@@ -391,7 +391,7 @@ vacated_later class slot content old low c p above limit out =
     with_page-other old class (page_of class slot) content c p (λ same page.
     out (
     let here : page_of class slot ≡ slot * pages_in_slot class = large_place class slot
-        (omega arith) in
+    (omega arith) in
     let at : p ≡ slot * pages_in_slot c =
     page ∙ here ∙ ap (λ d. slot * pages_in_slot d) (sym same) in
     ap (λ n. n % pages_in_slot c) at ∙ multiple slot (pages_in_slot c) (pow_pos (c - 7))))

@@ -55,9 +55,9 @@ slot_at-same a b class slot same =
     ap (λ (file : ℕ → List ℕ). cond (has_class all_classes class)
     (cond (is_small class)
     (read_small all_classes class (take (slot_size class) (drop (offset_of class slot)
-        (file (page_of class slot)))))
+    (file (page_of class slot)))))
     (read_large all_classes class (map (λ page. file page) (range_with_len (page_of class slot)
-        (pages_in_slot class)))))
+    (pages_in_slot class)))))
     (Never 0)) files
 
 module _ (class : ℕ) (high : class ≤ 7) where
@@ -112,22 +112,22 @@ pub sets_slot : (image : Image) (class slot : ℕ) (bytes content : List ℕ) �
 sets_slot image class slot bytes content high size fits is =
     let page = image class (page_of class slot) in
     let put = stay_in_place page bytes (offset_of class slot)
-        (omega (arith, slot_fits class high slot, fits, size)) in
+    (omega (arith, slot_fits class high slot, fits, size)) in
     let new = with_page image class (page_of class slot) content in
     record {
       here = ap (λ p. take (slot_size class) (drop (offset_of class slot) p))
           (with_page-at image class (page_of class slot) content class (page_of class slot) refl
-              refl ∙ is)
+          refl ∙ is)
           ∙ ap (λ n. take n (drop (offset_of class slot) (overwritten page (offset_of class slot)
-              bytes))) (sym fits)
+          bytes))) (sym fits)
           ∙ put.put;
       others = λ c s low other. elim (one_place c (page_of c s) class (page_of class slot)) [
         | inl one ↦
             let far : s ≡ slot → ⊥ = λ same. other (one.0, same) in
             let pages : page_of class s ≡ page_of class slot = ap (λ d. page_of d s) (sym one.0)
-                ∙ one.1 in
+            ∙ one.1 in
             let same : take (slot_size class) (drop (offset_of class s)
-                (overwritten page (offset_of class slot) bytes))
+            (overwritten page (offset_of class slot) bytes))
             ≡ take (slot_size class) (drop (offset_of class s) page) =
             elim (slots_apart class high s slot pages far) [
               | inl before ↦ put.before (offset_of class s) (slot_size class) before
@@ -137,11 +137,11 @@ sets_slot image class slot bytes content high size fits is =
             ap (λ p. take (slot_size c) (drop (offset_of c s) p))
             (with_page-at image class (page_of class slot) content c (page_of c s) one.0 one.1 ∙ is)
             ∙ ap (λ d. take (slot_size d) (drop (offset_of d s)
-                (overwritten page (offset_of class slot) bytes))) one.0
+            (overwritten page (offset_of class slot) bytes))) one.0
             ∙ same
             ∙ ap (λ d. take (slot_size d) (drop (offset_of d s) page)) (sym one.0)
             ∙ ap (λ d. take (slot_size c) (drop (offset_of c s) (image d (page_of class slot))))
-                (sym one.0)
+            (sym one.0)
             ∙ ap (λ q. take (slot_size c) (drop (offset_of c s) (image c q))) (sym one.1)
         | inr apart ↦ ap (λ p. take (slot_size c) (drop (offset_of c s) p))
             (with_page-other image class (page_of class slot) content c (page_of c s) apart)

@@ -29,13 +29,19 @@ last i n below =
     (cases_lt i n)
 
 pub first_start : (cs : List Change) (ms : List Move) (old : Reading) → FirstSoFar cs ms 0 old old
-first_start cs ms old = record { each = λ c s. inl refl; done = λ i c m t below _ _. absurd
-    (omega arith) }
+first_start cs ms old = record {
+  each = λ c s. inl refl;
+  done = λ i c m t below _ _. absurd
+      (omega arith);
+}
 
 pub second_start : (ms : List Move) (links : List (Option ℕ)) (old : Reading)
     → SecondSoFar ms links 0 old old
-second_start ms links old = record { each = λ c s. inl refl; done = λ i m p link below _ _ _. absurd
-    (omega arith) }
+second_start ms links old = record {
+  each = λ c s. inl refl;
+  done = λ i m p link below _ _ _. absurd
+      (omega arith);
+}
 
 new_more : (cs : List Change) (ms : List Move) (n c s : ℕ) (now : Slot) → IsNewAt cs ms n c s now
     → IsNewAt cs ms (n + 1) c s now
@@ -80,7 +86,7 @@ first_more_to cs ms n old now next ch mv None toes pair goes so_far same = recor
   done = λ i c m t below p to.
       ⊎_elim
       (λ (less : i < n). ap (λ (r : Reading). r t.class t.slot) same
-          ∙ so_far.done i c m t less p to)
+      ∙ so_far.done i c m t less p to)
       (λ (is : i ≡ n).
       let a = p.change in
       let b = pair.change in
@@ -122,8 +128,8 @@ first_more_to cs ms n old now next ch mv (Some t) toes pair goes so_far sets = r
       let e : next u.class u.slot ≡ now u.class u.slot = sets.others u.class u.slot (λ h.
       let same : i ≡ n = toes i n m mv g.place f.place p.move pair.move g.to f.to
       (place_same g.place f.place (ap (λ (x : To). x.class) (sym g.is) ∙ h.0
-          ∙ ap (λ (x : To). x.class) f.is) (ap (λ (x : To). x.slot) (sym g.is) ∙ h.1
-          ∙ ap (λ (x : To). x.slot) f.is)) in
+      ∙ ap (λ (x : To). x.class) f.is) (ap (λ (x : To). x.slot) (sym g.is) ∙ h.1
+      ∙ ap (λ (x : To). x.slot) f.is)) in
       omega arith) in
       e ∙ so_far.done i c m u less p to)
       (λ (is : i ≡ n).
@@ -135,15 +141,15 @@ first_more_to cs ms n old now next ch mv (Some t) toes pair goes so_far sets = r
       let two : m ≡ mv = cc in
       let three : u ≡ t = cc in
       subst (λ (x : To). next x.class x.slot ≡ Item c.stamp c.key x.value) (sym three)
-          (subst (λ (x : Change). next t.class t.slot ≡ Item x.stamp x.key t.value) (sym one)
-          sets.here))
+      (subst (λ (x : Change). next t.class t.slot ≡ Item x.stamp x.key t.value) (sym one)
+      sets.here))
       (last i n below);
 }
 
 pub first_more : (cs : List Change) (ms : List Move) (n : ℕ) (old now next : Reading) (ch : Change)
     (mv : Move) → TargetsApart ms → IsPair cs ms n ch mv
     → FirstSoFar cs ms n old now → IsWritten ch (to_of mv.to ch.value) now next
-        → FirstSoFar cs ms (n + 1) old next
+    → FirstSoFar cs ms (n + 1) old next
 first_more cs ms n old now next ch mv toes pair so_far written = first_more_to cs ms n old now next
     ch mv (to_of mv.to ch.value) toes pair refl so_far written
 
@@ -161,13 +167,13 @@ second_more_to : (ms : List Move) (links : List (Option ℕ)) (n : ℕ) (mid now
     (mv : Move) (link : Option ℕ) (o : Option Place) → LeftApart ms
     → slice_get ms n ≡ Some mv → slice_get links n ≡ Some link → mv.left ≡ o
     → SecondSoFar ms links n mid now → IsVacated mv.stamp o link now next
-        → SecondSoFar ms links (n + 1) mid next
+    → SecondSoFar ms links (n + 1) mid next
 second_more_to ms links n mid now next mv link None apart here linked goes so_far same = record {
   each = λ c s. second_far ms links n mid now next c s (ap (λ (r : Reading). r c s) same) so_far;
   done = λ i m p l below at at_link left.
       ⊎_elim
       (λ (less : i < n). ap (λ (r : Reading). r p.class p.slot) same
-          ∙ so_far.done i m p l less at at_link left)
+      ∙ so_far.done i m p l less at at_link left)
       (λ (is : i ≡ n).
       let a = at in
       let b = here in
@@ -177,51 +183,51 @@ second_more_to ms links n mid now next mv link None apart here linked goes so_fa
 }
 second_more_to ms links n mid now next mv link (Some q) apart here linked goes so_far sets =
     record {
-  each = λ c s.
-      ⊎_elim
-      (λ (one : IsPlace c s q.class q.slot).
-      inr (record {
-        i = n;
-        move = mv;
-        place = q;
-        link = link;
-        below = omega arith;
-        is = here;
-        linked = linked;
-        left = goes;
-        at = (sym one.0, sym one.1);
-        tombstone = ap (λ (x : ℕ). next x s) one.0 ∙ ap (λ (x : ℕ). next q.class x) one.1
-            ∙ sets.here;
-      }))
-      (λ (far : (c ≡ q.class) → (s ≡ q.slot) → ⊥). second_far ms links n mid now next c s
+      each = λ c s.
+          ⊎_elim
+          (λ (one : IsPlace c s q.class q.slot).
+          inr (record {
+            i = n;
+            move = mv;
+            place = q;
+            link = link;
+            below = omega arith;
+            is = here;
+            linked = linked;
+            left = goes;
+            at = (sym one.0, sym one.1);
+            tombstone = ap (λ (x : ℕ). next x s) one.0 ∙ ap (λ (x : ℕ). next q.class x) one.1
+                ∙ sets.here;
+          }))
+          (λ (far : (c ≡ q.class) → (s ≡ q.slot) → ⊥). second_far ms links n mid now next c s
           (sets.others c s (λ h. far h.0 h.1)) so_far)
-      (one_place c s q.class q.slot);
-  done = λ i m p l below at at_link left.
-      ⊎_elim
-      (λ (less : i < n).
-      sets.others p.class p.slot (λ h.
-      let same : i ≡ n = apart i n m mv p q at here left goes (place_same p q h.0 h.1) in
-      omega arith)
-      ∙ so_far.done i m p l less at at_link left)
-      (λ (is : i ≡ n).
-      let a = at in
-      let b = here in
-      let d = linked in
-      let f = at_link in
-      let one : m ≡ mv = cc in
-      let two : l ≡ link = cc in
-      let three : p ≡ q = (let w = left in cc) in
-      subst (λ (x : Place). next x.class x.slot ≡ Tombstone m.stamp l) (sym three)
-      (sets.here ∙ ap (λ (x : Move). Tombstone x.stamp link) (sym one)
+          (one_place c s q.class q.slot);
+      done = λ i m p l below at at_link left.
+          ⊎_elim
+          (λ (less : i < n).
+          sets.others p.class p.slot (λ h.
+          let same : i ≡ n = apart i n m mv p q at here left goes (place_same p q h.0 h.1) in
+          omega arith)
+          ∙ so_far.done i m p l less at at_link left)
+          (λ (is : i ≡ n).
+          let a = at in
+          let b = here in
+          let d = linked in
+          let f = at_link in
+          let one : m ≡ mv = cc in
+          let two : l ≡ link = cc in
+          let three : p ≡ q = (let w = left in cc) in
+          subst (λ (x : Place). next x.class x.slot ≡ Tombstone m.stamp l) (sym three)
+          (sets.here ∙ ap (λ (x : Move). Tombstone x.stamp link) (sym one)
           ∙ ap (λ (x : Option ℕ). Tombstone m.stamp x) (sym two)))
-      (last i n below);
-}
+          (last i n below);
+    }
 
 pub second_more : (ms : List Move) (links : List (Option ℕ)) (n : ℕ) (mid now next : Reading)
     (mv : Move) (link : Option ℕ) → LeftApart ms
     → slice_get ms n ≡ Some mv → slice_get links n ≡ Some link
     → SecondSoFar ms links n mid now → IsVacated mv.stamp mv.left link now next
-        → SecondSoFar ms links (n + 1) mid next
+    → SecondSoFar ms links (n + 1) mid next
 second_more ms links n mid now next mv link apart here linked so_far vacated =
     second_more_to ms links n mid now next mv link mv.left apart here linked refl so_far vacated
 
@@ -243,7 +249,7 @@ still_second-more moves old mid now i m at same so_far c s none =
 pub whole_more : (cs : List Change) (ms : List Move) (n : ℕ) (now next : Image) (ch : Change)
     (mv : Move) → TargetsApart ms → IsPair cs ms n ch mv
     → IsWhole ch (to_of mv.to ch.value) next → StillBeside mv.to now next → AreWhole cs ms n now
-        → AreWhole cs ms (n + 1) next
+    → AreWhole cs ms (n + 1) next
 whole_more cs ms n now next ch mv toes pair whole still so_far i c m t below p to large =
     ⊎_elim
     (λ (less : i < n).
@@ -251,10 +257,10 @@ whole_more cs ms n now next ch mv toes pair whole still so_far i c m t below p t
     let same : SameSlot now next t.class t.slot = still t.class t.slot (λ q goes here.
     let one : i ≡ n = toes i n m mv g.place q p.move pair.move g.to goes
     (place_same g.place q (ap (λ (x : To). x.class) (sym g.is) ∙ here.0)
-        (ap (λ (x : To). x.slot) (sym g.is) ∙ here.1)) in
+    (ap (λ (x : To). x.slot) (sym g.is) ∙ here.1)) in
     omega arith) in
     subst (λ (ps : List (List ℕ)). HaveStamp c.stamp ps) (sym
-        (large_same now next t.class t.slot (same.large large))) (so_far i c m t less p to large))
+    (large_same now next t.class t.slot (same.large large))) (so_far i c m t less p to large))
     (λ (is : i ≡ n).
     let a = p.change in
     let b = pair.change in
@@ -263,7 +269,7 @@ whole_more cs ms n now next ch mv toes pair whole still so_far i c m t below p t
     let one : c ≡ ch = cc in
     let two : m ≡ mv = cc in
     let goes : to_of mv.to ch.value ≡ Some t = ap (λ (x : Move). to_of x.to ch.value) (sym two)
-        ∙ ap (λ (x : Change). to_of m.to x.value) (sym one) ∙ to in
+    ∙ ap (λ (x : Change). to_of m.to x.value) (sym one) ∙ to in
     subst (λ (x : Change). HaveStamp x.stamp (large_slot next t.class t.slot)) (sym one)
     (subst (λ (o : Option To). IsWhole ch o next) goes whole large))
     (last i n below)

@@ -68,7 +68,7 @@ pub record MayChange (seen : Image) (index : Index) (worker workers : ℕ) (chan
 pub may_of : (tells : Bool) (seen : Image) (entries : Entries) (limit worker workers : ℕ)
     (changes : List Change) → IsTrue tells
     → CanChange tells seen entries limit worker workers changes
-        → MayChange seen (finite.get entries) worker workers changes
+    → MayChange seen (finite.get entries) worker workers changes
 may_of tells seen entries limit worker workers changes told can = record {
   distinct = can.distinct;
   owned = can.owned;
@@ -88,7 +88,7 @@ large_left : (from : Option Entry) (item : Option ℕ) (e : Entry) (class : ℕ)
 large_left from item e class from_is item_is large =
     ap (λ f. left_for f item) from_is ∙ ap (λ i. left_for (Some e) i) item_is
     ∙ cond-false (eqb e.place.class class && is_small class) None (Some e.place)
-        (and_right (eqb e.place.class class) (is_small class) (lt-leb class 7 (omega arith)))
+    (and_right (eqb e.place.class class) (is_small class) (lt-leb class 7 (omega arith)))
 
 -- what the items give is what is given for an owned key
 gives-owned : (reading : Reading) (worker workers : ℕ) (k : List ℕ) (a : Answer)
@@ -107,9 +107,9 @@ gives-owned reading worker workers k (Some answer) owned gives = (
 module _ (seen : Image) (index : Index) (start : Rooms) (worker workers : ℕ) (changes : List Change)
     (moves : List Move) (first second : List Page) (kept : List Room)
     (stands : Stands seen index start worker workers) (can : MayChange seen index worker workers
-        changes) (all_moves : AreAllMoves index changes moves)
+    changes) (all_moves : AreAllMoves index changes moves)
     (first_pages : ArePages first) (second_pages : ArePages second)
-        (planned : PlannedFor seen index start changes moves first second kept) where
+    (planned : PlannedFor seen index start changes moves first second kept) where
   holds_only : (c s t : ℕ) (k v : List ℕ) → slot_at all_classes seen c s ≡ Item t k v → index k
       ≡ Some (record { stamp = t; place = record { class = c; slot = s } })
   holds_only c s t k v is = elim (cases_lt s (start c).end) [
@@ -119,13 +119,13 @@ module _ (seen : Image) (index : Index) (start : Rooms) (worker workers : ℕ) (
           let item = stands.items entry.0 e entry.2 in
           let here : slot_at all_classes seen c s ≡ Item e.stamp entry.0 item.0 =
           ap (λ x. slot_at all_classes seen x s) (sym entry.3.0)
-              ∙ ap (λ x. slot_at all_classes seen e.place.class x) (sym entry.3.1) ∙ item.1 in
+          ∙ ap (λ x. slot_at all_classes seen e.place.class x) (sym entry.3.1) ∙ item.1 in
           let both : Item e.stamp entry.0 item.0 ≡ Item t k v = sym here ∙ is in
           let stamp : e.stamp ≡ t = cc in
           let key : entry.0 ≡ k = cc in
           let whole : e ≡ record { stamp = t; place = record { class = c; slot = s } } = λ i.
-              record { stamp = stamp i; place = record { class = entry.3.0 i; slot = entry.3.1 i } }
-              in
+          record { stamp = stamp i; place = record { class = entry.3.0 i; slot = entry.3.1 i } }
+          in
           ap index (sym key) ∙ entry.2 ∙ ap Some whole
       | inr listed ↦
           let tomb = stands.linked c listed.0 s listed.1 in
@@ -203,14 +203,14 @@ module _ (seen : Image) (index : Index) (start : Rooms) (worker workers : ℕ) (
       → slice_get moves i ≡ Some m → m.to ≡ Some p → 8 ≤ p.class
       → (slot_at all_classes image p.class p.slot ≡ slot_at all_classes seen p.class p.slot)
       ⊎ (IsNew (steps_of changes moves) p.class p.slot (slot_at all_classes image p.class p.slot)
-          ⊎ IsUnused index p.class p.slot (slot_at all_classes image p.class p.slot))
+      ⊎ IsUnused index p.class p.slot (slot_at all_classes image p.class p.slot))
   at_target image mix i m p at to large =
       let ch = change_at index changes moves can.distinct are i m at in
       let is = all_moves.each i ch.0 m ch.1 in
       let goes = goes_there ch.0 m p (ch.0).value refl is.none to in
       let target : To = record { class = p.class; slot = p.slot; value = goes.0 } in
       let value : (ch.0).value ≡ Some goes.0 = some_value (to_of_some m.to (ch.0).value target
-          goes.1) in
+      goes.1) in
       let some = is.some goes.0 value in
       let same : some.0 ≡ p = (let a = some.1 in cc) in
       let hold : CanHold ch.0 goes.0 p = subst (λ q. CanHold ch.0 goes.0 q) same some.2 in
@@ -218,10 +218,10 @@ module _ (seen : Image) (index : Index) (start : Rooms) (worker workers : ℕ) (
       let whole = planned.whole i ch.0 m target below ch.1 goes.1 large in
       let low = below_of (ch.0).stamp (large_slot seen p.class p.slot)
       (subst (λ heads. AllByRecursion (λ head. head < (ch.0).stamp) heads)
-          (heads_at-large seen p.class p.slot large hold.place.high)
-          (can.floor i ch.0 (ch.1).change p.class p.slot)) in
+      (heads_at-large seen p.class p.slot large hold.place.high)
+      (can.floor i ch.0 (ch.1).change p.class p.slot)) in
       elim (mix_large seen (over seen first) image p.class p.slot (ch.0).stamp large hold.place.high
-          low whole mix) [
+      low whole mix) [
         | inl old ↦ inl old
         | inr other ↦ elim other [
           | inl new ↦ inr (inl (record {
@@ -238,8 +238,8 @@ module _ (seen : Image) (index : Index) (start : Rooms) (worker workers : ℕ) (
             free = λ j e has here. elim (planned.assigned.target i ch.0 m p ch.1 to) [
               | inl stays ↦
                   let gone = planned.assigned.left i ch.0 m ch.1
-                      ∙ large_left (index (ch.0).key) (item_class (ch.0).key (ch.0).value)
-                      (stays.0).at p.class (stays.0).has
+                  ∙ large_left (index (ch.0).key) (item_class (ch.0).key (ch.0).value)
+                  (stays.0).at p.class (stays.0).has
                   (ap (λ v. item_class (ch.0).key v) value ∙ hold.class) large in
                   absurd (let a = sym stays.1 ∙ gone in cc)
               | inr used ↦ used.unused (j, e, has, here)
@@ -249,16 +249,20 @@ module _ (seen : Image) (index : Index) (start : Rooms) (worker workers : ℕ) (
       ]
     where
       some_value : Goes m.to (change_at index changes moves can.distinct are i m at).0.value
-          (record { class = p.class; slot = p.slot; value = (goes_there
-          (change_at index changes moves can.distinct are i m at).0 m p
+          (record {
+            class = p.class;
+            slot = p.slot;
+            value = (goes_there
+                (change_at index changes moves can.distinct are i m at).0 m p
+                (change_at index changes moves can.distinct are i m at).0.value refl
+                (all_moves.each i (change_at index changes moves can.distinct are i m at).0 m
+                (change_at index changes moves can.distinct are i m at).1).none to).0;
+          })
+          → (change_at index changes moves can.distinct are i m at).0.value
+          ≡ Some (goes_there (change_at index changes moves can.distinct are i m at).0 m p
           (change_at index changes moves can.distinct are i m at).0.value refl
           (all_moves.each i (change_at index changes moves can.distinct are i m at).0 m
-          (change_at index changes moves can.distinct are i m at).1).none to).0 })
-          → (change_at index changes moves can.distinct are i m at).0.value
-              ≡ Some (goes_there (change_at index changes moves can.distinct are i m at).0 m p
-              (change_at index changes moves can.distinct are i m at).0.value refl
-              (all_moves.each i (change_at index changes moves can.distinct are i m at).0 m
-              (change_at index changes moves can.distinct are i m at).1).none to).0
+          (change_at index changes moves can.distinct are i m at).1).none to).0
       some_value g = g.has ∙ ap Some (ap (λ (t : To). t.value) (sym g.is))
 
   -- an image inside the first round
@@ -270,15 +274,15 @@ module _ (seen : Image) (index : Index) (start : Rooms) (worker workers : ℕ) (
       | inl one ↦ inl one
       | inr two ↦
           let P : Slot → Type 0 = λ x. (x ≡ slot_at all_classes seen c s)
-              ⊎ (IsNew (steps_of changes moves) c s x ⊎ IsUnused index c s x) in
+          ⊎ (IsNew (steps_of changes moves) c s x ⊎ IsUnused index c s x) in
           subst P (sym two) (in_first c s)
     ]
     | inr large ↦ elim (target_or_not moves c s) [
       | inl t ↦
           let P : ℕ → ℕ → Type 0 = λ x y. (slot_at all_classes image x y
-              ≡ slot_at all_classes seen x y)
+          ≡ slot_at all_classes seen x y)
           ⊎ (IsNew (steps_of changes moves) x y (slot_at all_classes image x y)
-              ⊎ IsUnused index x y (slot_at all_classes image x y)) in
+          ⊎ IsUnused index x y (slot_at all_classes image x y)) in
           subst (λ x. P x s) (sym t.5.0) (subst (λ y. P (t.2).class y) (sym t.5.1)
           (at_target image mix t.0 t.1 t.2 t.3 t.4 (let e = t.5.0 in omega arith)))
       | inr none ↦ inl (slot_same seen image c s (mix_still seen (over seen first) image mix c s
@@ -292,19 +296,19 @@ module _ (seen : Image) (index : Index) (start : Rooms) (worker workers : ℕ) (
       (slot_at all_classes image)
   second_mix image mix c s =
       let P : Slot → Type 0 = λ x. (x ≡ slot_at all_classes (over seen first) c s)
-          ⊎ IsLeft (steps_of changes moves) c s x in
+      ⊎ IsLeft (steps_of changes moves) c s x in
       elim (cases_lt c 8) [
         | inl low ↦ elim (mix_small (over seen first) (over (over seen first) second) image mix c s
             (omega arith)) [
-          | inl one ↦ inl one
-          | inr two ↦ subst P (sym two) (in_second c s)
-        ]
+              | inl one ↦ inl one
+              | inr two ↦ subst P (sym two) (in_second c s)
+            ]
         | inr large ↦ elim (cases_lt c 12) [
           | inl limit ↦ elim (mix_first (over seen first) (over (over seen first) second) image mix
               planned.later c s large (omega arith)) [
-            | inl one ↦ inl one
-            | inr two ↦ subst P (sym two) (in_second c s)
-          ]
+                | inl one ↦ inl one
+                | inr two ↦ subst P (sym two) (in_second c s)
+              ]
           | inr past ↦ inl (slot_at-same image (over seen first) c s (λ p. elim (mix c p) [
             | inl one ↦ one
             | inr two ↦ two ∙ files_second c p past
@@ -317,12 +321,12 @@ module _ (seen : Image) (index : Index) (start : Rooms) (worker workers : ℕ) (
       → OldOrNewMap (map_of seen index) changes worker workers image
   inside image (inl mix) =
       as_map image (first_round index (steps_of changes moves) (slot_at all_classes seen) holds fits
-          (slot_at all_classes image)
+      (slot_at all_classes image)
       (first_mix image mix))
   inside image (inr mix) =
       as_map image (second_round index (steps_of changes moves) (slot_at all_classes seen) holds
-          fits (slot_at all_classes (over seen first)) in_first first_done
-          (slot_at all_classes image)
+      fits (slot_at all_classes (over seen first)) in_first first_done
+      (slot_at all_classes image)
       (second_mix image mix))
 
   -- a page that no slab has is as it was, at each moment
@@ -355,9 +359,9 @@ module _ (seen : Image) (index : Index) (start : Rooms) (worker workers : ℕ) (
   not_target c s past i m p at to here =
       let ch = change_at index changes moves can.distinct are i m at in
       let below = target_below index start planned.mid changes moves can.distinct planned.assigned
-          all_moves.count i ch.0 m p ch.1 to in
+      all_moves.count i ch.0 m p ch.1 to in
       let below_c : p.slot < (planned.mid c).end = subst (λ x. p.slot < (planned.mid x).end)
-          (sym here.0) below in
+      (sym here.0) below in
       let slot = here.1 in
       omega arith
 
@@ -365,9 +369,9 @@ module _ (seen : Image) (index : Index) (start : Rooms) (worker workers : ℕ) (
       → slice_get moves i ≡ Some m → m.left ≡ Some p → IsPlace c s p.class p.slot → ⊥
   not_left c s past i m p at left here =
       let below = left_below index start planned.mid changes moves can.distinct planned.assigned
-          all_moves.count i m p at left in
+      all_moves.count i m p at left in
       let below_c : p.slot < (planned.mid c).end = subst (λ x. p.slot < (planned.mid x).end)
-          (sym here.0) below in
+      (sym here.0) below in
       let slot = here.1 in
       omega arith
 
@@ -375,16 +379,18 @@ module _ (seen : Image) (index : Index) (start : Rooms) (worker workers : ℕ) (
       (over (over seen first) second) c s ≡ Never 0
   unused_after c s past =
       let one : slot_at all_classes (over seen first) c s ≡ slot_at all_classes seen c s = elim
-          (planned.writes.each c s) [
+      (planned.writes.each c s) [
         | inl same ↦ same
         | inr new ↦
             let g = to_of_some new.move.to new.change.value new.to new.goes in
-            absurd (not_target c s past new.i new.move g.place new.pair.move g.to
-            (sym new.at.0 ∙ ap (λ (x : To). x.class) g.is, sym new.at.1
-                ∙ ap (λ (x : To). x.slot) g.is))
+            absurd (not_target c s past new.i new.move g.place new.pair.move g.to (
+              sym new.at.0 ∙ ap (λ (x : To). x.class) g.is,
+              sym new.at.1
+                  ∙ ap (λ (x : To). x.slot) g.is,
+            ))
       ] in
       let two : slot_at all_classes (over (over seen first) second) c s
-          ≡ slot_at all_classes (over seen first) c s = elim (planned.vacates.each c s) [
+      ≡ slot_at all_classes (over seen first) c s = elim (planned.vacates.each c s) [
         | inl same ↦ same
         | inr left ↦ absurd (not_left c s past left.i left.move left.place left.is left.left
             (sym left.at.0, sym left.at.1))
@@ -396,24 +402,24 @@ module _ (seen : Image) (index : Index) (start : Rooms) (worker workers : ℕ) (
   zeros_after c s low high past =
       zero_same seen (over (over seen first) second) c s
       (same_then seen (over seen first) (over (over seen first) second) c s
-          (planned.first_still c s (not_target c s past)) (planned.second_still c s
-          (not_left c s past)))
+      (planned.first_still c s (not_target c s past)) (planned.second_still c s
+      (not_left c s past)))
       (stands.zeros c s low high (omega (arith, end_up c, past)))
 
   now_holds : Holds (now_index index start planned.mid changes moves can.distinct planned.assigned
       all_moves.count) (slot_at all_classes (over (over seen first) second))
   now_holds =
       holds_after index (steps_of changes moves) (slot_at all_classes seen) holds fits
-          (slot_at all_classes (over seen first)) in_first first_done
+      (slot_at all_classes (over seen first)) in_first first_done
       (slot_at all_classes (over (over seen first) second)) in_second second_done
 
   owned_now : (k : List ℕ) (e : Entry) → now_index index start planned.mid changes moves
       can.distinct planned.assigned all_moves.count k ≡ Some e → owner_of k workers ≡ worker
   owned_now k e at = elim (entry_now index start planned.mid changes moves can.distinct
       planned.assigned all_moves.count k e at) [
-    | inl old ↦ stands.owned k e old.0
-    | inr new ↦ ap (λ x. owner_of x workers) (sym new.5) ∙ can.owned new.0 new.1 (new.4).change
-  ]
+        | inl old ↦ stands.owned k e old.0
+        | inr new ↦ ap (λ x. owner_of x workers) (sym new.5) ∙ can.owned new.0 new.1 (new.4).change
+      ]
 
   pub rooms_path : final index start planned.mid changes moves can.distinct planned.assigned
       all_moves.count ≡ rooms_after index changes start
@@ -430,19 +436,19 @@ module _ (seen : Image) (index : Index) (start : Rooms) (worker workers : ℕ) (
       (index k)) (rooms_after index changes start) worker workers
   stands_after = subst (λ r. Stands (over (over seen first) second)
       (λ k. moved (steps_of changes moves k) (index k)) r worker workers) rooms_path (record {
-    items = now_holds.each;
-    owned = owned_now;
-    placed = placed_after index start planned.mid changes moves can.distinct planned.assigned
-        all_moves.count fits;
-    linked = linked_after index start planned.mid changes moves can.distinct planned.assigned
-        all_moves.count planned.links (slot_at all_classes seen)
-        (slot_at all_classes (over seen first)) (slot_at all_classes
-        (over (over seen first) second))
-        planned.many planned.linked planned.links_are planned.writes planned.vacates;
-    unused = unused_after;
-    zeros = zeros_after;
-    of_worker = of_worker_inside (over (over seen first) second) (inr (λ f p. inr refl));
-  })
+        items = now_holds.each;
+        owned = owned_now;
+        placed = placed_after index start planned.mid changes moves can.distinct planned.assigned
+            all_moves.count fits;
+        linked = linked_after index start planned.mid changes moves can.distinct planned.assigned
+            all_moves.count planned.links (slot_at all_classes seen)
+            (slot_at all_classes (over seen first)) (slot_at all_classes
+            (over (over seen first) second))
+            planned.many planned.linked planned.links_are planned.writes planned.vacates;
+        unused = unused_after;
+        zeros = zeros_after;
+        of_worker = of_worker_inside (over (over seen first) second) (inr (λ f p. inr refl));
+      })
 
   pub index_after : (now : Index) → ((k : List ℕ) → now k ≡ moved_by moves k (index k)) → now
       ≡ (λ k. moved (steps_of changes moves k) (index k))
@@ -456,7 +462,7 @@ module _ (seen : Image) (index : Index) (start : Rooms) (worker workers : ℕ) (
       ap (λ (im : Image). map_of im now k) is
       ∙ ap (λ (ix : Index). map_of (over (over seen first) second) ix k) (index_after now settled)
       ∙ answers_after index (steps_of changes moves) (slot_at all_classes seen) holds fits
-          (slot_at all_classes (over seen first)) in_first first_done
+      (slot_at all_classes (over seen first)) in_first first_done
       (slot_at all_classes (over (over seen first) second)) in_second second_done k
       ∙ answer k
 
@@ -475,7 +481,7 @@ places_after index now changes moves all places settled k e at =
     value_place : (c : Change) (m : Move) (p : Place) (v : Option (List ℕ)) → c.value ≡ v → m.to
         ≡ Some p → (c.value ≡ None → m.to ≡ None)
         → ((w : List ℕ) → c.value ≡ Some w → (q : Place) × (m.to ≡ Some q) × CanHold c w q)
-            → IsSlabPlace p
+        → IsSlabPlace p
     value_place c m p None has to none some = absurd (let a = none has in cc)
     value_place c m p (Some w) has to none some =
         let s = some w has in
@@ -485,7 +491,7 @@ places_after index now changes moves all places settled k e at =
     by_moves : (ms : List Move) → ((i : ℕ) (m : Move) (p : Place) → slice_get ms i ≡ Some m → m.to
         ≡ Some p → IsSlabPlace p)
         → (index k ≡ Some e → IsSlabPlace e.place) → moved_by ms k (index k) ≡ Some e
-            → IsSlabPlace e.place
+        → IsSlabPlace e.place
     by_moves [] targets was is = was is
     by_moves (m ∷ ms) targets was is = one_of (bytes_eq m.key k) m.to (λ p. targets 0 m p refl)
         (by_moves ms (λ i. targets (suc i)) was) is
@@ -503,31 +509,35 @@ places_after index now changes moves all places settled k e at =
 pub open_stays : {D : Type 0} (d : Ghosts D) (most : ℕ) (old new : D) (index : Index)
     (kept : List Room) (worker workers : ℕ)
     → ((disk : D) (t f p : ℕ) (c : List ℕ) → d.leaves disk t f p c → IsTrue d.tells
-        × MayLeave (d.leaves disk (d.calls disk)) (d.seen disk))
+    × MayLeave (d.leaves disk (d.calls disk)) (d.seen disk))
     → ReadsAtMost d most old new
     → IsOpen d.tells (d.seen old) (d.leaves old (d.calls old)) index kept worker workers
-        → IsOpen d.tells (d.seen new) (d.leaves new (d.calls new)) index kept worker workers
+    → IsOpen d.tells (d.seen new) (d.leaves new (d.calls new)) index kept worker workers
 open_stays d most old new index kept worker workers told reads opened = record {
   settled = λ f p c left. opened.settled f p c (reads.reads.crash.no_more f p c left)
       ∙ ap (λ (im : Image). im f p) (sym (reads.reads.seen (told new (d.calls new) f p c left).0));
   ends = opened.ends;
   places = opened.places;
-  stands = λ tells. let s = opened.stands tells in (s.0, s.1, subst
-      (λ (im : Image). Stands im index s.0 worker workers) (sym (reads.reads.seen tells)) s.2);
+  stands = λ tells. let s = opened.stands tells in (
+    s.0,
+    s.1,
+    subst
+        (λ (im : Image). Stands im index s.0 worker workers) (sym (reads.reads.seen tells)) s.2,
+  );
 }
 
 -- what the item of an entry answers
 pub is_answer : (seen : Image) (index : Index) (key : List ℕ) (e : Entry) (item : ItemOf)
     → HasItems seen index → index key ≡ Some e → item.key ≡ key → item.stamp ≡ e.stamp
     → ((stamp : ℕ) (k value : List ℕ) → slot_at all_classes seen e.place.class e.place.slot
-        ≡ Item stamp k value → item.value ≡ value)
+    ≡ Item stamp k value → item.value ≡ value)
     → IsAnswer (Some item) key (map_of seen index key)
 is_answer seen index key e item items has same_key same_stamp value =
     let it = items key e has in
     subst (λ (o : Option Entry). IsAnswer (Some item) key (answer_of (slot_at all_classes seen) o))
-        (sym has)
+    (sym has)
     (subst (λ (x : Slot). IsAnswer (Some item) key (item_of x)) (sym it.1)
-        (same_key, same_stamp, value e.stamp key it.0 it.1))
+    (same_key, same_stamp, value e.stamp key it.0 it.1))
 
 pub no_answer : (seen : Image) (index : Index) (key : List ℕ) → index key ≡ None
     → IsAnswer None key (map_of seen index key)
@@ -538,13 +548,13 @@ no_answer seen index key has = subst (λ (o : Option Entry). IsAnswer None key
 pub of_worker_open : {D : Type 0} (d : Ghosts D) (disk : D) (index : Index) (kept : List Room)
     (worker workers : ℕ)
     → ((disk : D) (t f p : ℕ) (c : List ℕ) → d.leaves disk t f p c → IsTrue d.tells
-        × MayLeave (d.leaves disk (d.calls disk)) (d.seen disk))
+    × MayLeave (d.leaves disk (d.calls disk)) (d.seen disk))
     → IsOpen d.tells (d.seen disk) (d.leaves disk (d.calls disk)) index kept worker workers
     → (image : Image) → MayLeave (d.leaves disk (d.calls disk)) image
-        → IsOfWorker worker workers image
+    → IsOfWorker worker workers image
 of_worker_open d disk index kept worker workers told opened image left =
     let tells = (told disk (d.calls disk) 0 0 (image 0 0) (left 0 0)).0 in
     let s = opened.stands tells in
     subst (λ (im : Image). IsOfWorker worker workers im) (sym
-        (only_image (d.seen disk) (d.leaves disk (d.calls disk)) image opened.settled left))
-        s.2.of_worker
+    (only_image (d.seen disk) (d.leaves disk (d.calls disk)) image opened.settled left))
+    s.2.of_worker

@@ -21,8 +21,12 @@ put_is : (file page number : ℕ) (zeros bytes content : List ℕ) (old new : Im
     → zeros ≡ replicate 4096 0 → length bytes ≡ 4096 → content ≡ overwritten zeros 0 bytes
     → new ≡ with_page old file number content → new ≡ with_page old file page bytes
 put_is file page number zeros bytes content old new number_is zeros_are size content_is set =
-    let few : length zeros ≤ length bytes = omega (arith, ap length zeros_are, size,
-        length-replicate {A = ℕ} 4096 0) in
+    let few : length zeros ≤ length bytes = omega (
+      arith,
+      ap length zeros_are,
+      size,
+      length-replicate {A = ℕ} 4096 0,
+    ) in
     set ∙ ap (λ n. with_page old file n content) number_is
     ∙ ap (λ x. with_page old file page x) (content_is ∙ whole_over zeros bytes few)
 
@@ -41,13 +45,13 @@ item_page class slot stamp key value old new number zeros content seven fits of 
     let size : length bytes ≡ 4096 = have_their_size.item all_classes class stamp key value high of
     ∙ ap slot_size seven in
     let is = put_is class (page_of class slot) number zeros bytes content old new number_is
-        zeros_are
+    zeros_are
     size content_is set in
     set_of_sets class slot bytes (Item stamp key value) stamp old new low high
     (items_again all_classes class stamp key value high fits of)
     (begin_with_stamp.item class stamp key value fits)
     (subst (λ im. Sets class slot bytes old im) (sym is) (page_sets class slot bytes old seven
-        size))
+    size))
   where
     page_sets : (class slot : ℕ) (bytes : List ℕ) (old : Image) → class ≡ 7 → length bytes ≡ 4096
         → Sets class slot bytes old (with_page old class (page_of class slot) bytes)
@@ -82,7 +86,7 @@ tombstone_page class slot stamp link old new number zeros content low high fits 
     let bytes = tombstone_bytes class stamp link in
     let size = tombstone_whole class stamp link low high in
     let is = put_is class (page_of class slot) number zeros bytes content old new number_is
-        zeros_are
+    zeros_are
     size content_is set in
     subst (λ im. IsSlotSet class slot (Tombstone stamp link) stamp old im) (sym is)
     (elim (cases_lt class 8) [

@@ -43,7 +43,7 @@ fn first_one<D: Disk>(
         (slot_at all_classes (over (D.seen disk.old.disk) pages.new.items))) }
     ensures still { IsTrue D.tells → OnOk result (StillBeside to
         (over (D.seen disk.old.disk) pages.old.items) (over (D.seen disk.old.disk)
-            pages.new.items)) }
+        pages.new.items)) }
     ensures whole { IsTrue D.tells → OnOk result (IsWhole change.now (to_of to change.now.value)
         (over (D.seen disk.old.disk) pages.new.items)) }
     ensures floor { IsTrue D.tells → OnOk result ((bound : ℕ) → change.now.stamp ≤ bound

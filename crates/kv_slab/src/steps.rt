@@ -140,11 +140,11 @@ pub fn apply_of<D: Disk, I: Index>(
         (rooms_of stacks.old.items ends.old.items) worker workers }
     requires planned { (changes : List Changed) × IsPlanned D.tells (D.seen disk.old.disk)
         (I.entries index.old) (I.spare index.old) (rooms_of stacks.old.items ends.old.items) limit
-            worker
+        worker
         workers plan changes }
     ensures any_moment { (changes : List Changed) → IsPlanned D.tells (D.seen disk.old.disk)
         (I.entries index.old) (I.spare index.old) (rooms_of stacks.old.items ends.old.items) limit
-            worker
+        worker
         workers plan changes
         → LeavesOnly (D.calls disk.old.disk) (D.calls disk.new.disk) (D.leaves disk.old.disk)
         (D.leaves disk.new.disk) (OldOrNewMap (map_of (D.seen disk.old.disk)
@@ -153,18 +153,18 @@ pub fn apply_of<D: Disk, I: Index>(
         (D.leaves disk.old.disk) (D.leaves disk.new.disk) (IsOfWorker worker workers) }
     ensures done { OnOk result ((changes : List Changed) → IsPlanned D.tells
         (D.seen disk.old.disk) (I.entries index.old) (I.spare index.old)
-            (rooms_of stacks.old.items ends.old.items) limit worker
+        (rooms_of stacks.old.items ends.old.items) limit worker
         workers plan changes → IsTrue D.tells → (k : List ℕ) → map_of (D.seen disk.new.disk)
         (finite.get (I.entries index.new)) k ≡ answer_after changes k (map_of
         (D.seen disk.old.disk) (finite.get (I.entries index.old)) k)) }
     ensures lists { OnOk result ((changes : List Changed) (start : Rooms) → IsPlanned D.tells
         (D.seen disk.old.disk) (I.entries index.old) (I.spare index.old)
-            (rooms_of stacks.old.items ends.old.items) limit worker
+        (rooms_of stacks.old.items ends.old.items) limit worker
         workers plan changes → IsTrue D.tells → AreRooms (rooms_of stacks.old.items ends.old.items)
-            start
+        start
         → Stands (D.seen disk.old.disk) (finite.get (I.entries index.old)) start worker workers
         → AreRooms (rooms_of stacks.new.items ends.new.items)
-            (rooms_after (finite.get (I.entries index.old)) changes start)
+        (rooms_after (finite.get (I.entries index.old)) changes start)
         × Stands (D.seen disk.new.disk) (finite.get (I.entries index.new))
         (rooms_after (finite.get (I.entries index.old)) changes start) worker workers) }
     ensures opened { OnOk result (IsOpen D.tells (D.seen disk.new.disk)
@@ -199,7 +199,7 @@ pub fn apply_of<D: Disk, I: Index>(
     ensures cause { HasCause (D.faults disk.old.disk) (D.faults disk.new.disk) result }
     ensures count { (changes : List Changed) → IsPlanned D.tells (D.seen disk.old.disk)
         (I.entries index.old) (I.spare index.old) (rooms_of stacks.old.items ends.old.items) limit
-            worker
+        worker
         workers plan changes
         → D.calls disk.new.disk ≤ D.calls disk.old.disk + 17 * length changes + 2 }
 {

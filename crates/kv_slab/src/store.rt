@@ -159,7 +159,7 @@ pub fn carry<D: Disk, I: Index>(
         → IsTrue D.tells → AreRooms (rooms_of stacks.old.items ends.old.items) start
         → Stands (D.seen disk.old.disk) (finite.get (I.entries index.old)) start worker workers
         → AreRooms (rooms_of stacks.new.items ends.new.items)
-            (rooms_after (finite.get (I.entries index.old)) changes start)
+        (rooms_after (finite.get (I.entries index.old)) changes start)
         × Stands (D.seen disk.new.disk) (finite.get (I.entries index.new))
         (rooms_after (finite.get (I.entries index.old)) changes start) worker workers) }
     ensures opened { OnOk result ((limit worker workers : ℕ) (changes : List Changed)
@@ -169,7 +169,7 @@ pub fn carry<D: Disk, I: Index>(
         (rooms_of stacks.old.items ends.old.items) limit worker workers plan changes
         → IsOpen D.tells (D.seen disk.new.disk) (D.leaves disk.new.disk (D.calls disk.new.disk))
         (finite.get (I.entries index.new)) (rooms_of stacks.new.items ends.new.items) worker
-            workers) }
+        workers) }
     ensures entries { OnOk result ((limit worker workers : ℕ) (changes : List Changed)
         → IsPlanned D.tells (D.seen disk.old.disk) (I.entries index.old) (I.spare index.old)
         (rooms_of stacks.old.items ends.old.items) limit worker workers plan changes

@@ -27,5 +27,5 @@ invariant-loop-change g l = record {
       → ArePlaced (finite.get (g.I.Index.entries l.index)) start
       → AreLinked (slot_at all_classes (g.D.Disk.seen l.fn.disk.disk)) start
       → SoFar (finite.get (g.I.Index.entries l.index)) (slot_at all_classes
-          (g.D.Disk.seen l.fn.disk.disk)) l.rooms.items start l.changes l.moves.items;
+      (g.D.Disk.seen l.fn.disk.disk)) l.rooms.items start l.changes l.moves.items;
 }

@@ -9,14 +9,14 @@ pub returns-clause-set : goal.returns-clause-set
 returns-clause-set c = λ image. on_ok_map c.hold_whole.result (c.hold_whole.ensures.set image)
     (λ set.
     tombstone_page c.args.place.class c.args.place.slot c.args.stamp c.args.link
-        (over image c.args.pages.now.items) (over image c.hold_whole.new.pages.items)
+    (over image c.args.pages.now.items) (over image c.hold_whole.new.pages.items)
     c.place_spot-page.result.0 _ _ c.requires.class c.requires.place.high c.ranges.stamp.fits
-        (if_some c.args.link (λ slot. slot < 2 ^ 24) c.requires.link)
+    (if_some c.args.link (λ slot. slot < 2 ^ 24) c.requires.link)
     c.place_spot-page.ensures.page refl c.tombstone_into.ensures.bytes set)
 
 pub returns-clause-later : goal.returns-clause-later
 returns-clause-later c = λ image. on_ok_map c.hold_whole.result (c.hold_whole.ensures.set image)
     (λ set.
     tombstone_later c.args.place.class c.args.place.slot (over image c.args.pages.now.items)
-        (over image c.hold_whole.new.pages.items)
+    (over image c.hold_whole.new.pages.items)
     c.place_spot-page.result.0 _ c.requires.class c.place_spot-page.ensures.page set)

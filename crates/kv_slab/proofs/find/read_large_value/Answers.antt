@@ -17,9 +17,9 @@ returns-clause-value g c = λ told. if_ok_one c.large_value.result c.large_value
     let pages : c.as_slice.result.now ≡ large_slot seen class slot =
     c.as_slice.ensures ∙ c.in_ok-pages.ensures.pages told
     ∙ ap (λ (n : ℕ). map (λ p. seen class p) (range_with_len n c.slot_pages.result))
-        c.place_spot-first.ensures.page
+    c.place_spot-first.ensures.page
     ∙ ap (λ (n : ℕ). map (λ p. seen class p) (range_with_len (page_of class slot) n))
-        c.slot_pages.ensures.value in
+    c.slot_pages.ensures.value in
     is stamp key value
     (ap (read_large all_classes class) pages ∙ sym (slot_at-large seen class slot c.requires.large
-        c.requires.place.high) ∙ stands))
+    c.requires.place.high) ∙ stands))

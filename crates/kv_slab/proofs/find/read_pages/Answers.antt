@@ -9,8 +9,8 @@ use Rattle.kv_slab.proofs.find.read_pages.Goals as goal
 pub returns-in_err-read_page-clause-reads : goal.returns-in_err-read_page-clause-reads
 returns-in_err-read_page-clause-reads g c =
     at_most-then g.D.Disk c.loop-number.number 1 c.args.count _ _ _
-        (let a = c.loop-number-test.true in omega arith) c.loop-number.invariant.reads
-        c.read_page.ensures.reads
+    (let a = c.loop-number-test.true in omega arith) c.loop-number.invariant.reads
+    c.read_page.ensures.reads
 
 pub loop-number-preserved : goal.loop-number-preserved
 loop-number-preserved g c =
@@ -38,6 +38,6 @@ loop-number-preserved g c =
           ∙ ap (λ image. image c.args.file (c.args.first + c.loop-number.number))
           (c.loop-number.invariant.reads.reads.seen tells))
           ∙ sym (map-range_with_len_more (g.D.Disk.seen c.args.disk.now.disk c.args.file)
-              c.args.first
+          c.args.first
           c.loop-number.number (c.args.first + c.loop-number.number) (omega arith));
     }

@@ -20,15 +20,18 @@ loop-i-init g c = record {
   reads = at_most-none g.D.Disk 0 c.args.disk.now.disk;
   first = λ _ _.
       subst (λ (ps : List Page). FirstSoFar c.args.changes.now c.args.moves.now 0
-          (slot_at all_classes (g.D.Disk.seen c.args.disk.now.disk))
-          (slot_at all_classes (over (g.D.Disk.seen c.args.disk.now.disk) ps)))
-          (sym c.new-pages.ensures.items)
+      (slot_at all_classes (g.D.Disk.seen c.args.disk.now.disk))
+      (slot_at all_classes (over (g.D.Disk.seen c.args.disk.now.disk) ps)))
+      (sym c.new-pages.ensures.items)
       (first_start c.args.changes.now c.args.moves.now (slot_at all_classes
-          (g.D.Disk.seen c.args.disk.now.disk)));
+      (g.D.Disk.seen c.args.disk.now.disk)));
   still = λ _. subst (λ (ps : List Page). StillFirst c.args.moves.now
       (g.D.Disk.seen c.args.disk.now.disk) (over (g.D.Disk.seen c.args.disk.now.disk) ps))
-      (sym c.new-pages.ensures.items) (λ cl s none. record { small = λ _. refl; large =
-      λ _ page below. refl });
+      (sym c.new-pages.ensures.items) (λ cl s none. record {
+        small = λ _. refl;
+        large =
+            λ _ page below. refl;
+      });
   whole = λ _ _ i ch m t below. absurd (omega arith);
   floor = λ _ bound up bounded. subst (λ (ps : List Page). HasFloorUpTo bound
       (over (g.D.Disk.seen c.args.disk.now.disk) ps)) (sym c.new-pages.ensures.items) bounded;
@@ -41,7 +44,7 @@ loop-i-init g c = record {
 pub first_one-requires-clause-hold : goal.first_one-requires-clause-hold
 first_one-requires-clause-hold g c =
     c.requires.hold c.loop-i.i c.index-changes-i.result (get_or c.args.moves.now c.loop-i.i
-        c.index-moves-i.result)
+    c.index-moves-i.result)
     (record {
       change = slice_get_read c.args.changes.now (length c.args.changes.now) c.loop-i.i
           c.index-changes-i.result refl c.loop-i-test.true c.index-changes-i.is;
@@ -58,17 +61,17 @@ pub loop-i-preserved : goal.loop-i-preserved
 loop-i-preserved g c =
     let move : Move = get_or c.args.moves.now c.loop-i.i c.index-moves-i.result in
     let at : slice_get c.args.moves.now c.loop-i.i ≡ Some move = slice_get-get_or c.args.moves.now
-        c.loop-i.i c.index-moves-i.result (let a = c.loop-i-test.true in let b = c.requires.count in
-        omega arith) in
+    c.loop-i.i c.index-moves-i.result (let a = c.loop-i-test.true in let b = c.requires.count in
+    omega arith) in
     record {
       reads = at_most-then g.D.Disk c.loop-i.i 1 (c.loop-i.i + 1) _ _ _ (omega arith)
           c.loop-i.invariant.reads c.first_one.ensures.reads;
       first = λ told apart.
           first_more c.args.changes.now c.args.moves.now c.loop-i.i
-              (slot_at all_classes (g.D.Disk.seen c.args.disk.now.disk))
-              (slot_at all_classes (over (g.D.Disk.seen c.args.disk.now.disk) c.loop-i.pages.items))
+          (slot_at all_classes (g.D.Disk.seen c.args.disk.now.disk))
+          (slot_at all_classes (over (g.D.Disk.seen c.args.disk.now.disk) c.loop-i.pages.items))
           (slot_at all_classes (over (g.D.Disk.seen c.args.disk.now.disk)
-              c.first_one.new.pages.items)) c.index-changes-i.result move apart
+          c.first_one.new.pages.items)) c.index-changes-i.result move apart
           (record {
             change = slice_get_read c.args.changes.now (length c.args.changes.now) c.loop-i.i
                 c.index-changes-i.result refl c.loop-i-test.true c.index-changes-i.is;
@@ -77,17 +80,17 @@ loop-i-preserved g c =
           (c.loop-i.invariant.first told apart)
           (subst
           (λ (im : Image). IsWritten c.index-changes-i.result
-              (to_of move.to c.index-changes-i.result.value)
-              (slot_at all_classes (over im c.loop-i.pages.items))
-              (slot_at all_classes (over im c.first_one.new.pages.items)))
+          (to_of move.to c.index-changes-i.result.value)
+          (slot_at all_classes (over im c.loop-i.pages.items))
+          (slot_at all_classes (over im c.first_one.new.pages.items)))
           (c.loop-i.invariant.reads.reads.seen told) (c.in_ok-first_one.ensures.written told));
       still = λ told. still_first-more c.args.moves.now (g.D.Disk.seen c.args.disk.now.disk)
           (over (g.D.Disk.seen c.args.disk.now.disk) c.loop-i.pages.items)
           (over (g.D.Disk.seen c.args.disk.now.disk) c.first_one.new.pages.items)
           c.loop-i.i move at
           (subst (λ (im : Image). StillBeside move.to (over im c.loop-i.pages.items)
-              (over im c.first_one.new.pages.items)) (c.loop-i.invariant.reads.reads.seen told)
-              (c.in_ok-first_one.ensures.still told))
+          (over im c.first_one.new.pages.items)) (c.loop-i.invariant.reads.reads.seen told)
+          (c.in_ok-first_one.ensures.still told))
           (c.loop-i.invariant.still told);
       whole = λ told apart. whole_more c.args.changes.now c.args.moves.now c.loop-i.i
           (over (g.D.Disk.seen c.args.disk.now.disk) c.loop-i.pages.items)
@@ -99,20 +102,20 @@ loop-i-preserved g c =
             move = at;
           })
           (subst (λ (im : Image). IsWhole c.index-changes-i.result
-              (to_of move.to c.index-changes-i.result.value) (over im c.first_one.new.pages.items))
-              (c.loop-i.invariant.reads.reads.seen told) (c.in_ok-first_one.ensures.whole told))
+          (to_of move.to c.index-changes-i.result.value) (over im c.first_one.new.pages.items))
+          (c.loop-i.invariant.reads.reads.seen told) (c.in_ok-first_one.ensures.whole told))
           (subst (λ (im : Image). StillBeside move.to (over im c.loop-i.pages.items)
-              (over im c.first_one.new.pages.items)) (c.loop-i.invariant.reads.reads.seen told)
-              (c.in_ok-first_one.ensures.still told))
+          (over im c.first_one.new.pages.items)) (c.loop-i.invariant.reads.reads.seen told)
+          (c.in_ok-first_one.ensures.still told))
           (c.loop-i.invariant.whole told apart);
       floor = λ told bound up bounded.
           subst (λ (im : Image). (n : ℕ) → c.index-changes-i.result.stamp ≤ n
-              → HasFloorUpTo n (over im c.loop-i.pages.items)
-              → HasFloorUpTo n (over im c.first_one.new.pages.items))
-              (c.loop-i.invariant.reads.reads.seen told) (c.in_ok-first_one.ensures.floor told)
+          → HasFloorUpTo n (over im c.loop-i.pages.items)
+          → HasFloorUpTo n (over im c.first_one.new.pages.items))
+          (c.loop-i.invariant.reads.reads.seen told) (c.in_ok-first_one.ensures.floor told)
           bound (up c.loop-i.i c.index-changes-i.result (slice_get_read c.args.changes.now
-              (length c.args.changes.now) c.loop-i.i c.index-changes-i.result refl
-              c.loop-i-test.true c.index-changes-i.is))
+          (length c.args.changes.now) c.loop-i.i c.index-changes-i.result refl
+          c.loop-i-test.true c.index-changes-i.is))
           (c.loop-i.invariant.floor told bound up bounded);
       pages = c.first_one.ensures.pages;
       count = omega (arith, c.first_one.ensures.count, c.loop-i.invariant.count);
@@ -124,8 +127,8 @@ returns-clause-whole g c = λ told apart.
     let b = c.loop-i.auto.i-end in
     let e : c.loop-i.i ≡ length c.args.changes.now = omega arith in
     subst (λ (n : ℕ). AreWhole c.args.changes.now c.args.moves.now n
-        (over (g.D.Disk.seen c.args.disk.now.disk) c.loop-i.pages.items)) e
-        (c.loop-i.invariant.whole told apart)
+    (over (g.D.Disk.seen c.args.disk.now.disk) c.loop-i.pages.items)) e
+    (c.loop-i.invariant.whole told apart)
 
 pub returns-clause-first : goal.returns-clause-first
 returns-clause-first g c = λ told apart.
@@ -133,6 +136,6 @@ returns-clause-first g c = λ told apart.
     let b = c.loop-i.auto.i-end in
     let e : c.loop-i.i ≡ length c.args.changes.now = omega arith in
     subst (λ (n : ℕ). FirstSoFar c.args.changes.now c.args.moves.now n
-        (slot_at all_classes (g.D.Disk.seen c.args.disk.now.disk))
-        (slot_at all_classes (over (g.D.Disk.seen c.args.disk.now.disk) c.loop-i.pages.items))) e
-        (c.loop-i.invariant.first told apart)
+    (slot_at all_classes (g.D.Disk.seen c.args.disk.now.disk))
+    (slot_at all_classes (over (g.D.Disk.seen c.args.disk.now.disk) c.loop-i.pages.items))) e
+    (c.loop-i.invariant.first told apart)

@@ -12,17 +12,17 @@ pub write-requires-clause-file : goal.write-requires-clause-file
 write-requires-clause-file g c =
     let page = get_or c.args.pages.now c.args.number nothing in
     (of_slab_at c.args.pages.now c.args.number page c.requires.pages.of_slabs c.requires.number
-        (same_default c.args.pages.now c.args.number nothing page c.requires.number)).0
+    (same_default c.args.pages.now c.args.number nothing page c.requires.number)).0
 
 pub write-requires-clause-page : goal.write-requires-clause-page
 write-requires-clause-page g c =
     let page = get_or c.args.pages.now c.args.number nothing in
     (of_slab_at c.args.pages.now c.args.number page c.requires.pages.of_slabs c.requires.number
-        (same_default c.args.pages.now c.args.number nothing page c.requires.number)).1
+    (same_default c.args.pages.now c.args.number nothing page c.requires.number)).1
 
 pub returns-clause-writes : goal.returns-clause-writes
 returns-clause-writes g c = λ page is.
     subst (λ (q : Page). WritesPage g.D.Disk q.file q.page q.content c.args.disk.now.disk
-        c.write.new.self.disk c.write.result)
+    c.write.new.self.disk c.write.result)
     (sym (is ∙ same_default c.args.pages.now c.args.number page nothing c.requires.number))
-        c.write.ensures.disk
+    c.write.ensures.disk

@@ -23,7 +23,7 @@ item-is pages i below = same_default pages i _ _ below
 pub returns-then-is_empty-clause-any_moment : goal.returns-then-is_empty-clause-any_moment
 returns-then-is_empty-clause-any_moment g c =
     started (g.D.Disk.calls c.args.disk.now.disk) (g.D.Disk.leaves c.args.disk.now.disk) _
-        (λ image left f p. inl (c.requires.settled f p (image f p) (left f p)))
+    (λ image left f p. inl (c.requires.settled f p (image f p) (left f p)))
 
 pub loop-turn-init : goal.loop-turn-init
 loop-turn-init g c = record {
@@ -52,14 +52,14 @@ wrote g c =
     let one = c.write_one.ensures.writes page is in
     writes_too page.file page.page page.content c.write_one.result
     (g.D.Disk.calls c.args.disk.now.disk) (g.D.Disk.calls d)
-        (g.D.Disk.calls c.write_one.new.disk.disk) (g.D.Disk.leaves c.args.disk.now.disk)
-        (g.D.Disk.leaves d) (g.D.Disk.leaves c.write_one.new.disk.disk)
+    (g.D.Disk.calls c.write_one.new.disk.disk) (g.D.Disk.leaves c.args.disk.now.disk)
+    (g.D.Disk.leaves d) (g.D.Disk.leaves c.write_one.new.disk.disk)
     (Mix (g.D.Disk.seen c.args.disk.now.disk) (over (g.D.Disk.seen c.args.disk.now.disk)
-        c.args.pages.now)) (g.D.Disk.seen d)
+    c.args.pages.now)) (g.D.Disk.seen d)
     (λ f p x left. (g.met.D.Disk.told d (g.D.Disk.calls d) f p x left).1)
     c.loop-turn.invariant.crash one.call.past one.crash
     (still (g.D.Disk.seen c.args.disk.now.disk) c.args.pages.now (number g c) page
-        c.requires.pages.apart (below g c) is)
+    c.requires.pages.apart (below g c) is)
 
 pub loop-turn-preserved : goal.loop-turn-preserved
 loop-turn-preserved g c =
@@ -72,12 +72,12 @@ loop-turn-preserved g c =
       crash = wrote g w;
       seen = λ told.
           subst (λ (im : Image). AreWritten (g.D.Disk.seen c.args.disk.now.disk) pages
-              c.args.order.now (c.loop-turn.turn + 1) im) (sym (one.written told))
+          c.args.order.now (c.loop-turn.turn + 1) im) (sym (one.written told))
           (written_next (g.D.Disk.seen c.args.disk.now.disk) (g.D.Disk.seen c.loop-turn.disk.disk)
-              pages c.args.order.now c.loop-turn.turn (number g w) page c.requires.pages.apart
-              (below g w) is
+          pages c.args.order.now c.loop-turn.turn (number g w) page c.requires.pages.apart
+          (below g w) is
           (λ d. ap (λ (key : ℕ × ℕ × ℕ). key.2) (same_default c.args.order.now c.loop-turn.turn d
-              (0, 0, 0) c.loop-turn-test.true))
+          (0, 0, 0) c.loop-turn-test.true))
           (c.loop-turn.invariant.seen told));
       faults = omega (arith, one.call.cause.later, c.loop-turn.invariant.faults);
       count = omega (arith, one.call.past.counted, c.loop-turn.invariant.count);
@@ -91,10 +91,10 @@ pub returns-clause-any_moment : goal.returns-clause-any_moment
 returns-clause-any_moment g c =
     let d = c.loop-turn.disk.disk in
     stays (g.D.Disk.calls c.args.disk.now.disk) (g.D.Disk.calls d)
-        (g.D.Disk.calls c.sync.new.self.disk) (g.D.Disk.leaves c.args.disk.now.disk)
-        (g.D.Disk.leaves d) (g.D.Disk.leaves c.sync.new.self.disk)
+    (g.D.Disk.calls c.sync.new.self.disk) (g.D.Disk.leaves c.args.disk.now.disk)
+    (g.D.Disk.leaves d) (g.D.Disk.leaves c.sync.new.self.disk)
     (Mix (g.D.Disk.seen c.args.disk.now.disk) (over (g.D.Disk.seen c.args.disk.now.disk)
-        c.args.pages.now))
+    c.args.pages.now))
     c.loop-turn.invariant.crash c.sync.ensures.disk.call.past c.sync.ensures.disk.crash
 
 pub returns-clause-written : goal.returns-clause-written
@@ -102,5 +102,5 @@ returns-clause-written g c = λ told.
     on_ok c.sync.result
     (c.sync.ensures.disk.seen told
     ∙ written_all (g.D.Disk.seen c.args.disk.now.disk) (g.D.Disk.seen c.loop-turn.disk.disk)
-        c.args.pages.now c.args.order.now c.loop-turn.turn c.requires.order c.loop-turn-test.false
-        (c.loop-turn.invariant.seen told))
+    c.args.pages.now c.args.order.now c.loop-turn.turn c.requires.order c.loop-turn-test.false
+    (c.loop-turn.invariant.seen told))

@@ -30,8 +30,12 @@ returns-clause-opened g c = on_ok_map c.carry.result c.carry.ensures.opened
     c.requires.planned.1)
 
 pub returns-clause-count : goal.returns-clause-count
-returns-clause-count g c = λ changes planned. omega (arith, c.carry.ensures.count, planned.counts.0,
-    planned.counts.1)
+returns-clause-count g c = λ changes planned. omega (
+  arith,
+  c.carry.ensures.count,
+  planned.counts.0,
+  planned.counts.1,
+)
 
 pub returns-clause-entries : goal.returns-clause-entries
 returns-clause-entries g c = on_ok_map c.carry.result c.carry.ensures.entries
@@ -50,9 +54,9 @@ pub returns-clause-filled : goal.returns-clause-filled
 returns-clause-filled g c = λ sizes filled.
     either c.carry.result
     (on_ok_map c.carry.result c.carry.ensures.filled (λ e. e c.args.limit c.args.worker
-        c.args.workers c.requires.planned.0 c.requires.planned.1 sizes filled))
+    c.args.workers c.requires.planned.0 c.requires.planned.1 sizes filled))
     (on_err_map c.carry.result c.carry.ensures.memory (λ same.
     subst (λ (en : Entries). AreFilled en (rooms_of c.carry.new.stacks.items
-        c.carry.new.ends.items)) (sym same.0)
+    c.carry.new.ends.items)) (sym same.0)
     (subst (λ (rs : List Room). AreFilled (g.I.Index.entries c.args.index.now) rs) (sym same.1)
-        filled)))
+    filled)))

@@ -17,7 +17,7 @@ pub returns-clause-stands : goal.returns-clause-stands
 returns-clause-stands g c = subst (λ v. c.self.inside.closed ≡ false → IsTrue g.D.Disk.tells
     → (rooms : Rooms) × AreRooms v.rooms rooms
     × Stands (g.D.Disk.seen v.disk.disk) (finite.get (g.I.Index.entries v.index)) rooms v.worker
-        v.workers) c.self.view_is
+    v.workers) c.self.view_is
     (λ open_. (c.self.invariant.opened open_).stands)
 
 pub returns-clause-keeps : goal.returns-clause-keeps
@@ -27,4 +27,4 @@ returns-clause-keeps g c = subst (λ v. c.self.inside.closed ≡ false → IsTru
     (λ open_ told.
     let s = (c.self.invariant.opened open_).stands told in
     keeps_map (g.D.Disk.seen c.self.inside.disk.disk) (finite.get
-        (g.I.Index.entries c.self.inside.index)) s.0 c.self.inside.worker c.self.inside.workers s.2)
+    (g.I.Index.entries c.self.inside.index)) s.0 c.self.inside.worker c.self.inside.workers s.2)

@@ -14,16 +14,16 @@ invariant_of-self-2 g c =
     let kept = rooms_of s.stacks.items s.ends.items in
     let new = c.plan_of.new in
     let opened : IsOpen g.D.Disk.tells (g.D.Disk.seen new.disk.disk)
-        (g.D.Disk.leaves new.disk.disk (g.D.Disk.calls new.disk.disk))
-        (finite.get (g.I.Index.entries new.index)) kept s.worker s.workers =
+    (g.D.Disk.leaves new.disk.disk (g.D.Disk.calls new.disk.disk))
+    (finite.get (g.I.Index.entries new.index)) kept s.worker s.workers =
     subst (λ (ts : List Tail). IsOpen g.D.Disk.tells (g.D.Disk.seen new.disk.disk)
-        (g.D.Disk.leaves new.disk.disk (g.D.Disk.calls new.disk.disk))
-        (finite.get (g.I.Index.entries new.index)) (rooms_of ts s.ends.items) s.worker s.workers)
-        c.as_slice.ensures
+    (g.D.Disk.leaves new.disk.disk (g.D.Disk.calls new.disk.disk))
+    (finite.get (g.I.Index.entries new.index)) (rooms_of ts s.ends.items) s.worker s.workers)
+    c.as_slice.ensures
     (subst (λ (es : List ℕ). IsOpen g.D.Disk.tells (g.D.Disk.seen new.disk.disk)
-        (g.D.Disk.leaves new.disk.disk (g.D.Disk.calls new.disk.disk))
-        (finite.get (g.I.Index.entries new.index)) (rooms_of c.as_slice.result.now es) s.worker
-        s.workers) c.as_slice-2.ensures
+    (g.D.Disk.leaves new.disk.disk (g.D.Disk.calls new.disk.disk))
+    (finite.get (g.I.Index.entries new.index)) (rooms_of c.as_slice.result.now es) s.worker
+    s.workers) c.as_slice-2.ensures
     c.plan_of.ensures.opened) in
     record {
       limits = c.self.invariant.limits;

@@ -22,10 +22,11 @@ ghost use Rattle.kv_slab.specs.View.{OldOrNewMap, KeepsMap, Stands, store_map};
 
 use crate::change::{Change, Item};
 use crate::fault::{StepFault, WriteFault};
+use crate::find::{find_item, next_item};
 use crate::lists::room_of;
 use crate::parts::{EndList, Parts, StackList};
 use crate::plan::Plan;
-use crate::steps::{apply_of, get_of, next_of, plan_of};
+use crate::store::{carry, make_plan};
 use kv_base::Limits;
 use kv_cache::Cached;
 use kv_disk::Disk;
@@ -182,16 +183,7 @@ impl<D: Disk, I: Index> Slabs<D, I> {
         ensures cause { IfErr result (HasStepCause (D.faults self.old.disk.disk)
             (D.faults self.new.disk.disk)) }
     {
-        get_of(
-            alloc,
-            &mut self.disk,
-            &self.index,
-            self.stacks.as_slice(),
-            self.ends.as_slice(),
-            self.worker,
-            self.workers,
-            key,
-        )
+        find_item(alloc, &mut self.disk, &self.index, key)
     }
 
     /// The item with the least key at or after this one. `None` exactly where there is none, and
@@ -210,16 +202,7 @@ impl<D: Disk, I: Index> Slabs<D, I> {
         ensures cause { IfErr result (HasStepCause (D.faults self.old.disk.disk)
             (D.faults self.new.disk.disk)) }
     {
-        next_of(
-            alloc,
-            &mut self.disk,
-            &self.index,
-            self.stacks.as_slice(),
-            self.ends.as_slice(),
-            self.worker,
-            self.workers,
-            key,
-        )
+        next_item(alloc, &mut self.disk, &self.index, key)
     }
 
     /// Makes all reads for the changes and takes all memory, and keeps the plan, in place of an
@@ -242,15 +225,12 @@ impl<D: Disk, I: Index> Slabs<D, I> {
             (D.faults self.new.disk.disk)) }
     {
         self.plan = None;
-        let plan = plan_of(
+        let plan = make_plan(
             alloc,
             &mut self.disk,
             &mut self.index,
             self.stacks.as_slice(),
             self.ends.as_slice(),
-            self.worker,
-            self.workers,
-            self.limits.slots,
             changes,
         )?;
         self.plan = Some(plan);
@@ -318,14 +298,11 @@ impl<D: Disk, I: Index> Slabs<D, I> {
     {
         match self.plan.take() {
             Some(plan) => {
-                let result = apply_of(
+                let result = carry(
                     &mut self.disk,
                     &mut self.index,
                     &mut self.stacks,
                     &mut self.ends,
-                    self.worker,
-                    self.workers,
-                    self.limits.slots,
                     plan,
                 );
                 match result {

@@ -10,11 +10,11 @@ pub returns-clause-plan : goal.returns-clause-plan
 returns-clause-plan g c =
     let s = c.self.inside in
     subst (λ v. (changes : List Change) → HasPlan g.D.Disk g.I.Index v changes
-    → IsKeptPlan g.D.Disk.tells (g.D.Disk.seen c.get_of.new.disk.disk)
+    → IsKeptPlan g.D.Disk.tells (g.D.Disk.seen c.find_item.new.disk.disk)
     (g.I.Index.entries s.index) (g.I.Index.spare s.index)
     (rooms_of s.stacks.items s.ends.items) s.limits.slots s.worker s.workers s.plan changes)
     c.self.view_is
     (λ changes planned. plan_stays g.D.Disk.tells (g.D.Disk.seen s.disk.disk)
-    (g.D.Disk.seen c.get_of.new.disk.disk) (g.I.Index.entries s.index) (g.I.Index.spare s.index)
+    (g.D.Disk.seen c.find_item.new.disk.disk) (g.I.Index.entries s.index) (g.I.Index.spare s.index)
     (rooms_of s.stacks.items s.ends.items) s.limits.slots s.worker s.workers s.plan changes
-    c.get_of.ensures.reads.reads.seen planned)
+    c.find_item.ensures.reads.reads.seen planned)

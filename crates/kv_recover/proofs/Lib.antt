@@ -1,0 +1,17 @@
+pub mod FreedLemmas
+pub mod SoFarLemmas
+pub mod FoundLemmas
+pub mod PassLemmas
+pub mod SlabLemmas
+pub mod PageLemmas
+pub mod FreeLemmas
+pub mod FindLemmas
+pub mod FilteredLemmas
+pub mod EntryLemmas
+pub mod LargeLemmas
+pub mod FrontLemmas
+pub mod FreeLargeLemmas
+pub mod OpenedLemmas
+pub mod FreeSteps
+pub mod FreeLargeSteps
+pub mod OpenSteps

@@ -1,0 +1,14 @@
+-- The classes so far are seen.
+use Rattle.std.proofs.Common.{◌≡◌, ℕ, ◌≤◌, ◌^◌, IsTrue, length, get_or}
+use Rattle.kv_recover.specs.Opened.{FindsAllBelow}
+use Rattle.kv_disk.specs.Steps.{OnlyReads}
+use Rattle.kv_recover.proofs.open.find_all.Given as goal
+
+abbrev pub invariant-loop-class : goal.invariant-loop-class
+invariant-loop-class g l = record {
+  reads : OnlyReads g.D.Disk l.fn.disk l.disk;
+  size : length l.ends ≡ 12;
+  ends : (class : ℕ) → get_or l.ends class 0 ≤ 2 ^ 24;
+  found : IsTrue g.D.Disk.tells → FindsAllBelow (g.D.Disk.seen l.fn.disk) l.share.worker
+      l.share.workers l.class (g.I.Index.entries l.index) l.floor l.ends;
+}

@@ -14,4 +14,7 @@ pub mod FreeLargeLemmas
 pub mod OpenedLemmas
 pub mod FreeSteps
 pub mod FreeLargeSteps
+pub mod CauseLemmas
 pub mod OpenSteps
+pub mod PrepareSteps
+pub mod PartsSteps

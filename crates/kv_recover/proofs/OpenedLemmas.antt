@@ -36,7 +36,7 @@ use Rattle.kv_recover.proofs.FreeLemmas.{is_free}
 use Rattle.kv_recover.proofs.FilteredLemmas.{nth, all, rises}
 use Rattle.kv_recover.proofs.EntryLemmas.{item_of, option_cases, one_floor, same_link}
 
-class_cases : (c : ℕ) → ((1 ≤ c) × (c ≤ 7)) ⊎ (((8 ≤ c) × (c ≤ 11)) ⊎ ((0 ≡ c) ⊎ (12 ≤ c)))
+pub class_cases : (c : ℕ) → ((1 ≤ c) × (c ≤ 7)) ⊎ (((8 ≤ c) × (c ≤ 11)) ⊎ ((0 ≡ c) ⊎ (12 ≤ c)))
 class_cases c = elim (cases_lt c 1) [
   | inl none ↦ inr (inr (inl (omega arith)))
   | inr some ↦ elim (cases_lt c 8) [
@@ -54,7 +54,7 @@ not_any [] c all = refl
 not_any (x ∷ xs) c all = or_from (eqb x c) (list_any (λ other. eqb other c) xs)
     (ne_eqb x c (λ is. let below : x < c = all.0 in omega arith)) (not_any xs c all.1)
 
-no_class : (c : ℕ) → 12 ≤ c → has_class all_classes c ≡ false
+pub no_class : (c : ℕ) → 12 ≤ c → has_class all_classes c ≡ false
 no_class c past = not_any all_classes.classes c (omega arith, (omega arith, (omega arith,
     (omega arith, (omega arith, (omega arith, (omega arith, (omega arith, (omega arith, (omega arith,
     (omega arith, tt)))))))))))

@@ -1,17 +1,19 @@
 -- What opening a disk of all classes keeps and gives.
-use Rattle.std.specs.Prelude.{◌≡◌, ℕ, ◌<◌, ◌≤◌, ◌-◌, List, length, slice_get, slice_index, Some}
-use Rattle.kv_base.specs.Image.{Image, zero_page}
+use Rattle.std.specs.Prelude.{◌≡◌, ◌⊎◌, ℕ, ◌<◌, ◌≤◌, ◌-◌, List, length, slice_get, slice_index, Some}
+use Rattle.kv_base.specs.Image.{Image, zero_page, with_page}
 use Rattle.kv_free.specs.FreeList.{Tail, StandsFor}
 use Rattle.kv_index.specs.Entries.{Entries}
 use Rattle.kv_model.specs.Head.{head_page}
 use Rattle.kv_model.specs.Layout.{all_classes}
-use Rattle.kv_model.specs.Recovery.{most_pages}
+use Rattle.kv_model.specs.Recovery.{OpensAs, IsNew, most_pages}
+use Rattle.kv_base.specs.Crash.{MayLeave}
+use Rattle.kv_disk.specs.declared.disk.Disk.{Ghosts}
 use Rattle.kv_model.specs.Reading.{slot_at, heads_at, small_slot, large_slot, IsFloor}
 use Rattle.kv_recover.specs.Freed.{KeepsSame}
 use Rattle.kv_recover.specs.Found.{HoldsKept}
 use Rattle.kv_recover.specs.Pass.{IsSlabEnd, HasFoundBelow}
 use Rattle.kv_recover.specs.Large.{IsLargeSlabEnd}
-use Rattle.kv_recover.specs.Causes.{AreBounded}
+use Rattle.kv_recover.specs.Causes.{AreBounded, IsUntouched}
 use Rattle.kv_recover.specs.Lists.{IsFreeList, HasLinks}
 
 -- the same items are kept as in the first image, the floor and the head page are the same, and each
@@ -22,6 +24,28 @@ pub record KeepsSlabs (first : Image) (worker workers : ℕ) (image : Image) : T
       → IsFloor (heads_at all_classes image) floor
   pub head : image 0 0 ≡ first 0 0
   pub past : (class page : ℕ) → most_pages class ≤ page → image class page ≡ first class page
+
+-- the same items are kept as in the first image, and the floor is the same; the image opens as this
+-- worker if the first did, and the head page is the same, or that of this worker on a new disk
+pub record KeepsStore (first : Image) (worker workers : ℕ) (image : Image) : Type 0 where
+  pub kept : KeepsSame (slot_at all_classes first) worker workers (slot_at all_classes image)
+  pub floor : (floor : ℕ) → IsFloor (heads_at all_classes first) floor
+      → IsFloor (heads_at all_classes image) floor
+  pub opens : OpensAs all_classes first worker workers
+      → OpensAs all_classes image worker workers
+  pub head : (image 0 0 ≡ first 0 0) ⊎ (IsNew first × (image 0 0 ≡ head_page worker workers))
+
+-- the disk has the head of this worker and is as it was, or it is new and has got that head
+abbrev pub IsPrepared : {D : Type 0} → Ghosts D → ℕ → ℕ → D → D → Type 0
+IsPrepared d worker workers old new =
+    (IsUntouched d old new × (d.seen old 0 0 ≡ head_page worker workers))
+    ⊎ (IsNew (d.seen old)
+    × (d.seen new ≡ with_page (d.seen old) 0 0 (head_page worker workers)))
+
+-- a crash could leave the image at the beginning, or it keeps the store that the disk read as then
+abbrev pub LeftOrKept : {D : Type 0} → Ghosts D → D → ℕ → ℕ → Image → Type 0
+LeftOrKept d old worker workers image = MayLeave (d.leaves old (d.calls old)) image
+    ⊎ KeepsStore (d.seen old) worker workers image
 
 -- one past the class's last slot that has a byte other than zero
 pub record IsEndOf (image : Image) (class end : ℕ) : Type 0 where

@@ -157,8 +157,8 @@ pub fn find_small<D: Disk, I: Index>(
     ensures found { IsTrue D.tells → IfOk result (λ found. FindsBelow (D.seen disk.old)
         share.worker share.workers 8 (I.entries index.new) found.floor found.ends) }
     ensures ends { IfOk result (λ found. (class : ℕ) → slice_index found.ends class ≤ 2 ^ 24) }
-    ensures cause { IfErr result (HasReadCause (IsTrue D.tells → (class : ℕ) × (class ≤ 7)
-        × IsPast (D.seen disk.old) class) (D.faults disk.old) (D.faults disk.new)) }
+    ensures cause { IfErr result (HasReadCause (IsTrue D.tells → (class : ℕ) × (1 ≤ class)
+        × (class ≤ 7) × IsPast (D.seen disk.old) class) (D.faults disk.old) (D.faults disk.new)) }
 {
     let mut floor = 0;
     let mut ends = [0; 12];

@@ -4,16 +4,21 @@ ghost use Rattle.kv_base.specs.Crash.{Only, LeavesOnly};
 ghost use Rattle.kv_base.specs.Image.{Image};
 ghost use Rattle.kv_disk.specs.Steps.{OnlyReads};
 ghost use Rattle.kv_model.specs.Head.{head_page};
-ghost use Rattle.kv_recover.specs.Causes.{HasReadCause, HasSlabCause, IsSpared};
+ghost use Rattle.kv_model.specs.Layout.{all_classes};
+ghost use Rattle.kv_model.specs.Recovery.{OpensAs};
+ghost use Rattle.kv_recover.specs.Causes.{HasReadCause, HasSlabCause, HasOpenCause, IsSpared};
+ghost use Rattle.kv_recover.specs.Causes.{IsUntouched};
 ghost use Rattle.kv_recover.specs.Free.{HasFreedBelow, reading_of};
 ghost use Rattle.kv_recover.specs.FreeLarge.{AnyMayBeFreed, FreesAnyBelow, EntriesStand};
 ghost use Rattle.kv_recover.specs.Opened.{FindsAllBelow, KeepsSlabs, IsOpenedStore};
+ghost use Rattle.kv_recover.specs.Opened.{KeepsStore, LeftOrKept};
 ghost use Rattle.kv_recover.specs.Pass.{IsPast};
 
 use crate::fault::OpenFault;
 use crate::find::{Found, find_small};
 use crate::free::free_small;
 use crate::free_large::free_large;
+use crate::head::prepare;
 use crate::large::find_large_class;
 use crate::share::Share;
 use kv_base::ReservedList;
@@ -48,8 +53,8 @@ pub fn find_all<D: Disk, I: Index>(
     ensures found { IsTrue D.tells → IfOk result (λ found. FindsAllBelow (D.seen disk.old)
         share.worker share.workers 12 (I.entries index.new) found.floor found.ends) }
     ensures ends { IfOk result (λ found. (class : ℕ) → slice_index found.ends class ≤ 2 ^ 24) }
-    ensures cause { IfErr result (HasReadCause (IsTrue D.tells → (class : ℕ) × (class ≤ 11)
-        × IsPast (D.seen disk.old) class) (D.faults disk.old) (D.faults disk.new)) }
+    ensures cause { IfErr result (HasReadCause (IsTrue D.tells → (class : ℕ) × (1 ≤ class)
+        × (class ≤ 11) × IsPast (D.seen disk.old) class) (D.faults disk.old) (D.faults disk.new)) }
 {
     let small = find_small(alloc, disk, index, share)?;
     let Found {
@@ -136,4 +141,39 @@ pub fn open_slabs<D: Disk, I: Index>(
         ends,
         stacks,
     })
+}
+
+/// Opens the parts of the store of this worker: makes durable what is there, makes a new disk a
+/// store, finds what is kept, frees every other slot, and makes that durable.
+pub fn open_parts<D: Disk, I: Index>(
+    alloc: Global,
+    disk: &mut D,
+    index: &mut I,
+    share: Share,
+) -> Result<Parts, OpenFault>
+    requires below { share.worker < share.workers }
+    requires limit { share.workers ≤ 16 }
+    requires none { I.entries index.old ≡ finite.empty }
+    ensures opened { IsTrue D.tells → IfOk result (λ opened. IsOpenedStore (D.seen disk.new)
+        share.worker share.workers (I.entries index.new) opened.floor opened.ends
+        opened.stacks.items) }
+    ensures opens { IsTrue D.tells → OnOk result (OpensAs all_classes (D.seen disk.old)
+        share.worker share.workers) }
+    ensures same { IsTrue D.tells → OnOk result (KeepsStore (D.seen disk.old) share.worker
+        share.workers (D.seen disk.new)) }
+    ensures durable { OnOk result (Only (D.seen disk.new) (D.leaves disk.new (D.calls disk.new))) }
+    ensures floor { IfOk result (λ opened. opened.floor < 2 ^ 62 - 1) }
+
+    // crashes and refusals
+    ensures any_moment { LeavesOnly (D.calls disk.old) (D.calls disk.new) (D.leaves disk.old)
+        (D.leaves disk.new) (LeftOrKept ⟦<D as Disk>⟧ disk.old share.worker share.workers) }
+    ensures cause { IfErr result (HasOpenCause (IsTrue D.tells) (D.seen disk.old) share.worker
+        share.workers (D.faults disk.old) (D.faults disk.new)) }
+    ensures spared { IfErr result (λ fault. IsSpared fault
+        → IsUntouched ⟦<D as Disk>⟧ disk.old disk.new) }
+    ensures later { D.faults disk.old ≤ D.faults disk.new }
+{
+    prepare(disk, share)?;
+    let parts = open_slabs(alloc, disk, index, share)?;
+    Ok(parts)
 }

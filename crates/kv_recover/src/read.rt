@@ -57,9 +57,8 @@ pub fn check_blank<D: Disk>(disk: &mut D, file: u8, page: u32) -> Result<(), Ope
 }
 
 /// Whether all bytes are zero.
-#[tactic(auto, unfolding(kv_base::specs::Image::zero_page))]
 pub fn is_blank(page: &[u8; 4096]) -> bool
     ensures { IsTrue result ↔ (page.now ≡ zero_page) }
 {
-    *page == [0; 4096]
+    is_zero(page)
 }

@@ -1,0 +1,45 @@
+-- Causes of refusals, handed on.
+use Rattle.std.proofs.Common.{◌≡◌, ◌⊎◌, inl, inr, ℕ, ◌≤◌, sym, ap, ◌∙◌, subst, arith}
+use Rattle.std.proofs.Common.{Result, Ok, Err, IfErr}
+use Rattle.std.specs.Result.{IsErrAnd}
+use Rattle.kv_base.specs.Fault.{Rose}
+use Rattle.kv_base.specs.Image.{Image, zero_page}
+use Rattle.kv_model.specs.Head.{IsHead, head_page}
+use Rattle.kv_slot.proofs.HeadLemmas.{zeros_no_head}
+use Rattle.kv_recover.specs.declared.fault.OpenFault.{OpenFault}
+use Rattle.kv_recover.specs.declared.fault.OpenFault.TheVariants.{NotAStore, OtherStore, StampsSpent}
+use Rattle.kv_recover.specs.declared.fault.OpenFault.TheVariants.{DiskFault, NoMemory}
+use Rattle.kv_recover.specs.Causes.{HasReadCause, HasMakeCause, IsUsed}
+
+-- a count that rose in a part of the calls rose in all
+pub rose-since : (before mid after : ℕ) → before ≤ mid → Rose mid after → Rose before after
+rose-since before mid after up rose = omega arith
+
+-- what is known of an error holds of the error that is handed on
+pub handed : {T E : Type 0} (result : Result T E) (P Q : E → Type 0) → IsErrAnd result P
+    → ((e : E) → P e → Q e) → IfErr result Q
+handed (Ok x) P Q is so = tt
+handed (Err e) P Q is so = so e is
+
+-- what an error ensures gives another fact of it
+pub if_err : {T E : Type 0} (result : Result T E) (P Q : E → Type 0) → IfErr result P
+    → ((e : E) → P e → Q e) → IfErr result Q
+if_err (Ok x) P Q ensured so = tt
+if_err (Err e) P Q ensured so = so e ensured
+
+-- a disk that can't be made a store
+pub make-cause : (tells : Type 0) (first now : Image) (worker workers before mid after : ℕ)
+    (fault : OpenFault) → before ≤ mid → (tells → now ≡ first) → (tells → first 0 0 ≡ zero_page)
+    → HasReadCause (tells → IsUsed now) mid after fault
+    → HasMakeCause tells first worker workers before after fault
+make-cause tells first now worker workers before mid after NotAStore up same zero cause = λ told. (
+  inr (inl (zero told, subst IsUsed (same told) (cause told))),
+  (λ a b head. absurd (zeros_no_head (first 0 0) a b (zero told) head)),
+)
+make-cause tells first now worker workers before mid after (OtherStore a b c d) up same zero cause =
+    absurd cause
+make-cause tells first now worker workers before mid after (StampsSpent stamp) up same zero cause =
+    absurd cause
+make-cause tells first now worker workers before mid after DiskFault up same zero cause =
+    rose-since before mid after up cause
+make-cause tells first now worker workers before mid after NoMemory up same zero cause = tt

@@ -18,6 +18,7 @@ use Rattle.kv_recover.specs.Pass.{bytes_in}
 use Rattle.kv_disk.specs.Steps.{OnlyReads}
 use Rattle.kv_recover.specs.Free.{free_slots, FreesPage, reading_of, MayBeFreed, IsFreed, HasFreed}
 use Rattle.kv_recover.specs.Free.{IsFree, HasFreedBelow, HasStacks, FreesBelow}
+use Rattle.kv_recover.proofs.FilteredLemmas.{get-within}
 use Rattle.kv_recover.proofs.FreeLemmas.{Puts, page_reads, may-write, freed-write, puts-same, puts-with, may-up, may-later}
 
 -- what follows of an Ok call, given what the call ensures where the disk tells
@@ -200,7 +201,7 @@ pub stacks-next : (entries : Entries) (first : Image) (ends : ℕ → ℕ) (clas
     → HasStacks entries first ends (class + 1) (stacks ++ stack ∷ [])
 stacks-next entries first ends class stacks stack has stands = record {
   count = omega (arith, length-append stacks (stack ∷ []), has.count);
-  each = λ c tail low is. elim (get-push stacks stack tail (c - 1) is) [
+  each = λ c tail low is. elim (get-push stacks stack tail c is) [
     | inl within ↦ has.each c tail low within
     | inr last ↦
         let at : class ≡ c = (let count = has.count in let place = last.0 in omega arith) in
@@ -210,10 +211,10 @@ stacks-next entries first ends class stacks stack has stands = record {
   ];
 }
 
--- no stack yet
-pub stacks-start : (entries : Entries) (first : Image) (ends : ℕ → ℕ)
-    → HasStacks entries first ends 1 []
-stacks-start entries first ends = record {
-  count = refl;
-  each = λ c tail low is. absurd (cc);
+-- the stack of class 0 alone
+pub stacks-start : (entries : Entries) (first : Image) (ends : ℕ → ℕ) (stacks : List Tail)
+    → length stacks ≡ 1 → HasStacks entries first ends 1 stacks
+stacks-start entries first ends stacks one = record {
+  count = one;
+  each = λ c stack low is. absurd (let within = get-within stacks stack c is in omega arith);
 }

@@ -13,16 +13,8 @@ use Rattle.kv_model.specs.Slots.{key_length_field, last_field, stamp_field, link
 use Rattle.kv_slot.specs.Views.{read_front}
 use Rattle.kv_recover.specs.Free.{is_place, is_entry}
 use Rattle.kv_recover.specs.FreeLarge.{EntriesStand}
+use Rattle.kv_recover.specs.Large.{slot_from}
 use Rattle.kv_recover.proofs.EntryLemmas.{place_of}
-
--- a slot whose first page says this, with its value, and whether all its pages have its stamp
-abbrev pub slot_from : Slot → Bool → List ℕ → Slot
-slot_from (Never stamp) whole value = Never stamp
-slot_from (Item stamp key front) whole value =
-    cond whole (Item stamp key value) (Torn stamp)
-slot_from (Tombstone stamp link) whole value = Tombstone stamp link
-slot_from (Bad stamp) whole value = Bad stamp
-slot_from (Torn stamp) whole value = Torn stamp
 
 -- the value in all pages
 abbrev pub whole_value : List ℕ → List (List ℕ) → List ℕ

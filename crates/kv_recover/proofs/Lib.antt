@@ -10,6 +10,9 @@ pub mod FilteredLemmas
 pub mod EntryLemmas
 pub mod LargeLemmas
 pub mod FrontLemmas
+pub mod LaterLemmas
+pub mod CountLemmas
+pub mod PlacedLemmas
 pub mod FreeLargeLemmas
 pub mod OpenedLemmas
 pub mod FreeSteps

@@ -275,7 +275,7 @@ module _ {D : Type 0} (d : Ghosts D) (told : Told d) (worker workers : ℕ) (old
                   (λ c. get_or ends c 0) fits (d.seen freed) may (floor-found tells);
               count = omega (arith, lists.count);
               lists = λ class stack low has.
-                  let within = get-within stacks stack (class - 1) has in
+                  let within = get-within stacks stack class has in
                   let count = lists.count in
                   let high : class ≤ 11 = omega arith in
                   has-list (d.seen old) worker workers floor entries (holds tells) ends fits

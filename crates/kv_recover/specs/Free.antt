@@ -108,8 +108,8 @@ pub record HasFreedBelow {D : Type 0} (d : Ghosts D) (entries : Entries) (first 
 -- of each class below this one there is a stack, which has the class's free slots
 pub record HasStacks (entries : Entries) (first : Image) (ends : ℕ → ℕ) (class : ℕ)
     (stacks : List Tail) : Type 0 where
-  pub count : length stacks + 1 ≡ class
-  pub each : (c : ℕ) (stack : Tail) → 1 ≤ c → slice_get stacks (c - 1) ≡ Some stack
+  pub count : length stacks ≡ class
+  pub each : (c : ℕ) (stack : Tail) → 1 ≤ c → slice_get stacks c ≡ Some stack
       → StandsFor stack (free_slots entries (reading_of first) c (ends c))
 
 -- all classes below this one are freed

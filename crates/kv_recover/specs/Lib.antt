@@ -1,5 +1,6 @@
 pub mod SoFar
 pub mod Found
+pub mod Placed
 pub mod Pass
 pub mod Large
 pub mod Freed

@@ -74,8 +74,8 @@ pub record IsOpenedStore (image : Image) (worker workers : ℕ) (entries : Entri
     (ends : List ℕ) (stacks : List Tail) : Type 0 where
   pub holds : HoldsKept entries (slot_at all_classes image) worker workers
   pub floor_is : IsFloor (heads_at all_classes image) floor
-  pub count : length stacks ≡ 11
-  pub lists : (class : ℕ) (stack : Tail) → 1 ≤ class → slice_get stacks (class - 1) ≡ Some stack
+  pub count : length stacks ≡ 12
+  pub lists : (class : ℕ) (stack : Tail) → 1 ≤ class → slice_get stacks class ≡ Some stack
       → HasClassList image worker workers floor class (slice_index ends class) stack
   pub head : image 0 0 ≡ head_page worker workers
   pub bounded : AreBounded image

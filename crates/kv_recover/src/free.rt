@@ -206,7 +206,7 @@ fn free_next<D: Disk, I: Index>(
 }
 
 /// Frees the slots of the classes 1 to 7 that are below their ends and no entry's, and appends the
-/// list of each class. Takes no memory.
+/// list of each class to that of class 0. Takes no memory.
 pub fn free_small<D: Disk, I: Index>(
     disk: &mut D,
     index: &I,
@@ -215,7 +215,7 @@ pub fn free_small<D: Disk, I: Index>(
     stacks: &mut ReservedList<Stacks>,
 ) -> Result<(), Failed>
     requires ends { (class : ℕ) → slice_index ends.now class ≤ 2 ^ 24 }
-    requires none { stacks.old.items ≡ [] }
+    requires one { length stacks.old.items ≡ 1 }
     requires room { 7 ≤ stacks.old.spare }
     ensures done { OnOk result ((first : Image)
         → HasFreedBelow ⟦<D as Disk>⟧ (I.entries index.now) first (λ c. slice_index ends.now c)
@@ -228,6 +228,7 @@ pub fn free_small<D: Disk, I: Index>(
         → LeavesOnly (D.calls disk.old) (D.calls disk.new) (D.leaves disk.old) (D.leaves disk.new)
         (MayBeFreed (I.entries index.now) first (λ c. slice_index ends.now c) floor 8 0) }
     ensures range { floor < 2 ^ 64 }
+    ensures count { OnOk result (length stacks.new.items ≡ 8) }
     ensures spare { OnOk result (stacks.new.spare + 7 ≡ stacks.old.spare) }
     ensures cause { HasCause (D.faults disk.old) (D.faults disk.new) result }
 {

@@ -1,5 +1,5 @@
 ghost use Rattle.std.specs.Prelude.{◌≡◌, ℕ, ◌+◌, ◌-◌, ◌^◌, ◌<◌, ◌≤◌, IsTrue, OnOk, IfOk, List, [], ◌∷◌};
-ghost use Rattle.std.specs.Prelude.{◌++◌, IfSome, slice_index};
+ghost use Rattle.std.specs.Prelude.{◌++◌, IfSome, slice_index, length};
 ghost use Rattle.kv_base.specs.Crash.{LeavesOnly};
 ghost use Rattle.kv_base.specs.Fault.{HasCause};
 ghost use Rattle.kv_base.specs.Image.{Image};
@@ -125,6 +125,7 @@ fn free_large_next<D: Disk, I: Index>(
         (AnyMayBeFreed (I.entries index.now) first ends floor (class + 1) 0) }
     ensures cause { HasCause (D.faults disk.old) (D.faults disk.new) result }
     ensures spare { OnOk result (stacks.new.spare + 1 ≡ stacks.old.spare) }
+    ensures count { OnOk result (length stacks.new.items ≡ length stacks.old.items + 1) }
 {
     let mut stack = Stacks::new();
     free_large_class(disk, index, class, end, floor, &mut stack)?;
@@ -143,6 +144,7 @@ pub fn free_large<D: Disk, I: Index>(
 ) -> Result<(), Failed>
     requires ends { (class : ℕ) → slice_index ends.now class ≤ 2 ^ 24 }
     requires room { 4 ≤ stacks.old.spare }
+    requires eight { length stacks.old.items ≡ 8 }
     ensures done { OnOk result ((first : Image)
         → FreesAnyBelow ⟦<D as Disk>⟧ (I.entries index.now) first (λ c. slice_index ends.now c)
         floor 8 disk.old stacks.old.items
@@ -153,6 +155,7 @@ pub fn free_large<D: Disk, I: Index>(
         floor 8 disk.old stacks.old.items
         → LeavesOnly (D.calls disk.old) (D.calls disk.new) (D.leaves disk.old) (D.leaves disk.new)
         (AnyMayBeFreed (I.entries index.now) first (λ c. slice_index ends.now c) floor 12 0) }
+    ensures count { OnOk result (length stacks.new.items ≡ 12) }
     ensures cause { HasCause (D.faults disk.old) (D.faults disk.new) result }
 {
     for class in 8..12 {

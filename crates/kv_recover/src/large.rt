@@ -1,28 +1,30 @@
-ghost use Rattle.std.specs.Prelude.{◌≡◌, ℕ, ◌+◌, ◌*◌, ◌-◌, ◌^◌, ◌<◌, ◌≤◌, ◌↔◌, IsTrue, OnOk, IfOk, IfErr};
-ghost use Rattle.std.specs.Prelude.{length, map, max};
+ghost use Rattle.std.specs.Prelude.{◌≡◌, ◌⊎◌, ℕ, ◌+◌, ◌*◌, ◌-◌, ◌^◌, ◌<◌, ◌≤◌, ◌++◌, List, [], ◌∷◌};
+ghost use Rattle.std.specs.Prelude.{IsTrue, OnOk, IfOk, IfErr, length, map, max};
 ghost use Rattle.std.specs.List.{range_with_len};
+ghost use Rattle.kv_base.specs.Fault.{HasCause};
 ghost use Rattle.kv_base.specs.Image.{Image, zero_page};
-ghost use Rattle.kv_model.specs.Layout.{all_classes, pages_in_slot};
-ghost use Rattle.kv_model.specs.Reading.{large_slot};
-ghost use Rattle.kv_model.specs.Slots.{read_large, stamp_field};
-ghost use Rattle.kv_recover.specs.Found.{with_slot};
-ghost use Rattle.kv_recover.specs.Large.{IsGreatest, AreZeroPages, HasFoundLarge};
-ghost use Rattle.kv_recover.specs.Large.{FindsLargeClass};
-ghost use Rattle.kv_recover.specs.Pass.{IsPast};
-ghost use Rattle.kv_model.specs.Recovery.{most_pages};
-ghost use Rattle.std.specs.Prelude.{◌⊎◌};
 ghost use Rattle.kv_disk.specs.Steps.{OnlyReads};
+ghost use Rattle.kv_model.specs.Layout.{pages_in_slot};
+ghost use Rattle.kv_model.specs.Reading.{large_slot};
+ghost use Rattle.kv_model.specs.Recovery.{most_pages};
+ghost use Rattle.kv_model.specs.Slots.{stamp_field};
+ghost use Rattle.kv_slot.specs.Views.{read_front};
 ghost use Rattle.kv_recover.specs.Causes.{HasReadCause};
+ghost use Rattle.kv_recover.specs.Found.{with_slot};
+ghost use Rattle.kv_recover.specs.Large.{IsLater, slot_from, HasFoundLarge, FindsLargeClass};
+ghost use Rattle.kv_recover.specs.Pass.{IsPast};
+ghost use Rattle.kv_recover.specs.Placed.{HasCounts, ArePlaced, with_end};
 
 use crate::fault::OpenFault;
 use crate::find::check_blanks;
+use crate::items::Items;
 use crate::read::{is_blank, length_of, read_page};
-use crate::see::{Seen, take_item};
+use crate::see::{Seen, see_slot};
 use crate::share::Share;
-use kv_base::{NoMemory, Place, ReservedList, owner};
+use kv_base::{Failed, NoMemory, Place};
 use kv_disk::Disk;
-use kv_index::{Entry, Index};
-use kv_slot::{Large, PageList, page_stamp, read_large, spot};
+use kv_index::Index;
+use kv_slot::{page_stamp, read_first, spot};
 use std::alloc::Global;
 
 /// The pages of one slot of this class, 8 to 11.
@@ -39,144 +41,179 @@ pub fn pages_in_slot(class: u8) -> u32
     }
 }
 
-/// The greatest of a number and those at the heads of the pages.
-fn greatest_stamp(pages: &[[u8; 4096]], floor: u64) -> u64
-    ensures { IsGreatest floor (map stamp_field pages.now) result }
-{
-    let mut greatest = floor;
-    for page in pages {
-        greatest = greatest.max(page_stamp(page));
-    }
-    greatest
+/// What the later pages of a slot say, beside its first one.
+#[derive(Clone, Copy)]
+struct Later {
+    /// Whether all of them have the first one's stamp.
+    whole: bool,
+    /// Whether all of them are zero.
+    blank: bool,
+    /// The greatest of a number and those at their heads.
+    floor: u64,
 }
 
-/// Whether all pages are zero.
-fn are_blank(pages: &[[u8; 4096]]) -> bool
-    ensures { IsTrue result ↔ AreZeroPages pages.now }
+/// Whether all pages so far are zero, and this one too.
+fn still_blank(blank: bool, page: &[u8; 4096]) -> bool
+    ensures to { IsTrue result → IsTrue blank × (page.now ≡ zero_page) }
+    ensures from { IsTrue blank → page.now ≡ zero_page → IsTrue result }
 {
-    for page in pages {
-        if !is_blank(page) {
-            return false;
-        }
-    }
-    true
+    blank && is_blank(page)
 }
 
-/// Takes what stands in a slot of the classes 8 to 11 into the index, given its pages.
-fn see_pages<I: Index>(
-    alloc: Global,
-    index: &mut I,
-    share: Share,
-    pages: &[[u8; 4096]],
-    place: Place,
-) -> Result<(), NoMemory>
-    requires class { (8 ≤ place.class) × (place.class ≤ 11) }
-    requires pages { length pages.now ≡ pages_in_slot place.class }
-    requires share { (1 ≤ share.workers) × (share.workers ≤ 16) }
-    ensures { OnOk result (I.entries index.new ≡ with_slot (I.entries index.old)
-        share.worker share.workers place.class place.slot
-        (read_large all_classes place.class pages.now)) }
+/// What the later pages say once one more was read.
+fn with_later(later: Later, page: &[u8; 4096], stamp: u64) -> Later
+    ensures pages { (pages : List (List ℕ)) (floor : ℕ)
+        → IsLater pages stamp floor later.whole later.blank later.floor
+        → IsLater (pages ++ page.now ∷ []) stamp floor result.whole result.blank result.floor }
+    ensures floor { later.floor ≤ result.floor }
 {
-    match read_large(alloc, pages, place.class)? {
-        Large::Item { stamp, key, .. } => {
-            if owner(key.as_slice(), share.workers) == share.worker {
-                take_item(alloc, index, key.as_slice(), Entry { stamp, place })?;
-            }
-            Ok(())
-        }
-        _ => Ok(()),
+    let head = page_stamp(page);
+    Later {
+        whole: later.whole & (head == stamp),
+        blank: still_blank(later.blank, page),
+        floor: later.floor.max(head),
     }
 }
 
-/// Sees a slot of the classes 8 to 11, given its pages.
-fn see_large<I: Index>(
-    alloc: Global,
-    index: &mut I,
-    share: Share,
-    pages: &[[u8; 4096]],
-    place: Place,
-    seen: Seen,
-) -> Result<Seen, NoMemory>
-    requires class { (8 ≤ place.class) × (place.class ≤ 11) }
-    requires slot { place.slot < 2 ^ 24 }
-    requires pages { length pages.now ≡ pages_in_slot place.class }
-    requires share { (1 ≤ share.workers) × (share.workers ≤ 16) }
-    ensures found { IfOk result (λ now. (image : Image)
-        → large_slot image place.class place.slot ≡ pages.now
-        → HasFoundLarge image share.worker share.workers place.class place.slot
-        (I.entries index.old) seen.floor seen.end
-        → HasFoundLarge image share.worker share.workers place.class (place.slot + 1)
-        (I.entries index.new) now.floor now.end) }
-    ensures end { IfOk result (λ now. now.end ≤ max seen.end (place.slot + 1)) }
-{
-    see_pages(alloc, index, share, pages, place)?;
-    let end = if are_blank(pages) {
-        seen.end
-    } else {
-        place.slot + 1
-    };
-    Ok(Seen {
-        floor: greatest_stamp(pages, seen.floor),
-        end,
-    })
-}
-
-/// Reads the pages of a slot.
-pub fn read_pages<D: Disk>(
-    alloc: Global,
+/// Reads the later pages of a slot.
+fn read_later<D: Disk>(
     disk: &mut D,
     class: u8,
     first: u32,
     count: u32,
-) -> Result<PageList, OpenFault>
+    stamp: u64,
+    floor: u64,
+) -> Result<Later, Failed>
     requires class { class ≤ 13 }
     requires pages { first + count < 2 ^ 32 - 1 }
     ensures reads { OnlyReads ⟦<D as Disk>⟧ disk.old disk.new }
-    ensures pages { IsTrue D.tells → IfOk result (λ pages. pages.items
-        ≡ map (λ page. D.seen disk.old class page) (range_with_len first count)) }
-    ensures count { IfOk result (λ pages. length pages.items ≡ count) }
-    ensures cause { IfErr result (HasReadCause ⊥ (D.faults disk.old) (D.faults disk.new)) }
+    ensures pages { IsTrue D.tells → IfOk result (λ later. IsLater
+        (map (λ page. D.seen disk.old class page) (range_with_len first count)) stamp floor
+        later.whole later.blank later.floor) }
+    ensures floor { IfOk result (λ later. floor ≤ later.floor) }
+    ensures cause { HasCause (D.faults disk.old) (D.faults disk.new) result }
 {
-    let mut pages = ReservedList::with_room(alloc, count as usize)?;
+    let mut later = Later {
+        whole: true,
+        blank: true,
+        floor,
+    };
     for number in 0..count {
         let mut page = [0; 4096];
         read_page(disk, class, first + number, &mut page)?;
-        pages.append(page).unwrap();
+        later = with_later(later, &page, stamp);
     }
-    Ok(pages)
+    Ok(later)
+}
+
+/// Takes the item of a slot of the classes 8 to 11 into the index, given its first page and whether
+/// the later ones have its stamp.
+fn see_first<I: Index>(
+    alloc: Global,
+    items: &mut Items<I>,
+    share: Share,
+    page: &[u8; 4096],
+    whole: bool,
+    place: Place,
+) -> Result<(), NoMemory>
+    requires class { (8 ≤ place.class) × (place.class ≤ 11) }
+    requires share { (1 ≤ share.workers) × (share.workers ≤ 16) }
+    requires counted { HasCounts (I.entries items.old.index) items.old.counts }
+    ensures entries { (value : List ℕ) → OnOk result (I.entries items.new.index
+        ≡ with_slot (I.entries items.old.index) share.worker share.workers place.class place.slot
+        (slot_from (read_front place.class page.now) whole value)) }
+    ensures counted { OnOk result (HasCounts (I.entries items.new.index) items.new.counts) }
+{
+    if whole {
+        see_slot(alloc, items, share, read_first(page, place.class), place)?;
+    }
+    Ok(())
+}
+
+/// Sees a slot of the classes 8 to 11, given its first page and what the later ones say.
+fn see_large<I: Index>(
+    alloc: Global,
+    items: &mut Items<I>,
+    share: Share,
+    page: &[u8; 4096],
+    later: Later,
+    place: Place,
+    end: u32,
+) -> Result<Seen, NoMemory>
+    requires class { (8 ≤ place.class) × (place.class ≤ 11) }
+    requires slot { place.slot < 2 ^ 24 }
+    requires behind { end ≤ place.slot }
+    requires stamp { stamp_field page.now ≤ later.floor }
+    requires share { (1 ≤ share.workers) × (share.workers ≤ 16) }
+    requires counted { HasCounts (I.entries items.old.index) items.old.counts }
+    ensures found { IfOk result (λ now. (image : Image) (floor : ℕ) (pages : List (List ℕ))
+        → large_slot image place.class place.slot ≡ page.now ∷ pages
+        → IsLater pages (stamp_field page.now) (max floor (stamp_field page.now)) later.whole
+        later.blank later.floor
+        → HasFoundLarge image share.worker share.workers place.class place.slot
+        (I.entries items.old.index) floor end
+        → HasFoundLarge image share.worker share.workers place.class (place.slot + 1)
+        (I.entries items.new.index) now.floor now.end) }
+    ensures end { IfOk result (λ now. now.end ≤ place.slot + 1) }
+    ensures placed { IfOk result (λ now. (ends : ℕ → ℕ) (floor : ℕ) → floor ≤ later.floor
+        → ArePlaced (I.entries items.old.index) floor (with_end ends place.class end)
+        → ArePlaced (I.entries items.new.index) now.floor (with_end ends place.class now.end)) }
+    ensures counted { OnOk result (HasCounts (I.entries items.new.index) items.new.counts) }
+{
+    see_first(alloc, items, share, page, later.whole, place)?;
+    let end = if still_blank(later.blank, page) {
+        end
+    } else {
+        place.slot + 1
+    };
+    Ok(Seen {
+        floor: later.floor,
+        end,
+    })
 }
 
 /// Reads a slot of the classes 8 to 11 and sees it.
 fn find_large_at<D: Disk, I: Index>(
     alloc: Global,
     disk: &mut D,
-    index: &mut I,
+    items: &mut Items<I>,
     share: Share,
     place: Place,
     seen: Seen,
 ) -> Result<Seen, OpenFault>
     requires class { (8 ≤ place.class) × (place.class ≤ 11) }
     requires slot { place.slot < 2 ^ 24 }
+    requires behind { seen.end ≤ place.slot }
     requires share { (1 ≤ share.workers) × (share.workers ≤ 16) }
+    requires counted { HasCounts (I.entries items.old.index) items.old.counts }
     ensures reads { OnlyReads ⟦<D as Disk>⟧ disk.old disk.new }
     ensures found { IsTrue D.tells → IfOk result (λ now.
         HasFoundLarge (D.seen disk.old) share.worker share.workers place.class place.slot
-        (I.entries index.old) seen.floor seen.end
+        (I.entries items.old.index) seen.floor seen.end
         → HasFoundLarge (D.seen disk.old) share.worker share.workers place.class (place.slot + 1)
-        (I.entries index.new) now.floor now.end) }
-    ensures end { IfOk result (λ now. seen.end ≤ 2 ^ 24 → now.end ≤ 2 ^ 24) }
+        (I.entries items.new.index) now.floor now.end) }
+    ensures end { IfOk result (λ now. now.end ≤ place.slot + 1) }
+    ensures placed { IfOk result (λ now. (ends : ℕ → ℕ) → ArePlaced (I.entries items.old.index)
+        seen.floor (with_end ends place.class seen.end) → ArePlaced (I.entries items.new.index)
+        now.floor (with_end ends place.class now.end)) }
+    ensures counted { OnOk result (HasCounts (I.entries items.new.index) items.new.counts) }
     ensures cause { IfErr result (HasReadCause ⊥ (D.faults disk.old) (D.faults disk.new)) }
 {
     let (first, _) = spot(place);
-    let pages = read_pages(alloc, disk, place.class, first, pages_in_slot(place.class))?;
-    Ok(see_large(alloc, index, share, pages.as_slice(), place, seen)?)
+    let count = pages_in_slot(place.class);
+    let mut page = [0; 4096];
+    read_page(disk, place.class, first, &mut page)?;
+    let stamp = page_stamp(&page);
+    let floor = seen.floor.max(stamp);
+    let later = read_later(disk, place.class, first + 1, count - 1, stamp, floor)?;
+    Ok(see_large(alloc, items, share, &page, later, place, seen.end)?)
 }
 
 /// Sees the first slots of this class, 8 to 11.
 fn find_large_slots<D: Disk, I: Index>(
     alloc: Global,
     disk: &mut D,
-    index: &mut I,
+    items: &mut Items<I>,
     share: Share,
     class: u8,
     slots: u32,
@@ -185,18 +222,23 @@ fn find_large_slots<D: Disk, I: Index>(
     requires class { (8 ≤ class) × (class ≤ 11) }
     requires slots { slots ≤ 2 ^ 24 }
     requires share { (1 ≤ share.workers) × (share.workers ≤ 16) }
+    requires counted { HasCounts (I.entries items.old.index) items.old.counts }
     ensures reads { OnlyReads ⟦<D as Disk>⟧ disk.old disk.new }
     ensures found { IsTrue D.tells → IfOk result (λ now.
-        HasFoundLarge (D.seen disk.old) share.worker share.workers class 0 (I.entries index.old)
+        HasFoundLarge (D.seen disk.old) share.worker share.workers class 0 (I.entries items.old.index)
         floor 0
         → HasFoundLarge (D.seen disk.old) share.worker share.workers class slots
-        (I.entries index.new) now.floor now.end) }
+        (I.entries items.new.index) now.floor now.end) }
     ensures end { IfOk result (λ now. now.end ≤ 2 ^ 24) }
+    ensures placed { IfOk result (λ now. (ends : ℕ → ℕ) → ArePlaced (I.entries items.old.index)
+        floor (with_end ends class 0) → ArePlaced (I.entries items.new.index) now.floor
+        (with_end ends class now.end)) }
+    ensures counted { OnOk result (HasCounts (I.entries items.new.index) items.new.counts) }
     ensures cause { IfErr result (HasReadCause ⊥ (D.faults disk.old) (D.faults disk.new)) }
 {
     let mut seen = Seen { floor, end: 0 };
     for slot in 0..slots {
-        seen = find_large_at(alloc, disk, index, share, Place { class, slot }, seen)?;
+        seen = find_large_at(alloc, disk, items, share, Place { class, slot }, seen)?;
     }
     Ok(seen)
 }
@@ -230,25 +272,30 @@ fn most_large_pages(class: u8) -> u32
 pub fn find_large_class<D: Disk, I: Index>(
     alloc: Global,
     disk: &mut D,
-    index: &mut I,
+    items: &mut Items<I>,
     share: Share,
     class: u8,
     floor: u64,
 ) -> Result<Seen, OpenFault>
     requires class { (8 ≤ class) × (class ≤ 11) }
     requires share { (1 ≤ share.workers) × (share.workers ≤ 16) }
+    requires counted { HasCounts (I.entries items.old.index) items.old.counts }
     ensures reads { OnlyReads ⟦<D as Disk>⟧ disk.old disk.new }
     ensures found { IsTrue D.tells → IfOk result (λ now.
-        FindsLargeClass (D.seen disk.old) share.worker share.workers class (I.entries index.old)
-        (I.entries index.new) floor now.floor now.end) }
+        FindsLargeClass (D.seen disk.old) share.worker share.workers class (I.entries items.old.index)
+        (I.entries items.new.index) floor now.floor now.end) }
     ensures end { IfOk result (λ now. now.end ≤ 2 ^ 24) }
+    ensures placed { IfOk result (λ now. (ends : ℕ → ℕ) → ArePlaced (I.entries items.old.index)
+        floor (with_end ends class 0) → ArePlaced (I.entries items.new.index) now.floor
+        (with_end ends class now.end)) }
+    ensures counted { OnOk result (HasCounts (I.entries items.new.index) items.new.counts) }
     ensures cause { IfErr result (HasReadCause (IsTrue D.tells → IsPast (D.seen disk.old) class)
         (D.faults disk.old) (D.faults disk.new)) }
 {
     let pages = length_of(disk, class)?;
     let per_slot = pages_in_slot(class);
     let slots = slots_in(pages, per_slot);
-    let seen = find_large_slots(alloc, disk, index, share, class, slots, floor)?;
+    let seen = find_large_slots(alloc, disk, items, share, class, slots, floor)?;
     check_blanks(disk, class, most_large_pages(class), pages)?;
     Ok(seen)
 }

@@ -33,7 +33,7 @@ returns-clause-found g c = λ tells.
     ∙ ap (λ image. image c.args.class page) (sym second)
     ∙ c.in_ok-check_blanks.ensures.ok tells page from below)
     (subst (λ image. HasFound image c.args.share.worker c.args.share.workers c.args.class 0
-    (g.I.Index.entries c.args.index.now) c.args.floor 0
+    (g.I.Index.entries c.args.items.now.index) c.args.floor 0
     → HasFound image c.args.share.worker c.args.share.workers c.args.class
-    (c.min.result * slots_in_page c.args.class) (g.I.Index.entries c.find_in_pages.new.index)
+    (c.min.result * slots_in_page c.args.class) (g.I.Index.entries c.find_in_pages.new.items.index)
     c.in_ok-seen.seen.floor c.in_ok-seen.seen.end) first pages)

@@ -4,6 +4,7 @@ use Rattle.std.proofs.lemmas.List.{get_or_past, length-replicate, get_or-replica
 use Rattle.std.proofs.lemmas.Bool.{cases_lt}
 use Rattle.kv_recover.specs.Pass.{FindsBelow, FindsClass}
 use Rattle.kv_recover.proofs.SlabLemmas.{zero_at}
+use Rattle.kv_recover.proofs.PlacedLemmas.{placed-none, placed-begin, placed-end, ends-rest}
 use Rattle.kv_recover.proofs.FindLemmas.{finds-start, finds-next, ends-next}
 use Rattle.kv_disk.proofs.StepsLemmas.{reads-none, reads-then}
 use Rattle.kv_recover.proofs.find.find_small.Goals as goal
@@ -13,8 +14,11 @@ loop-class-init g c = record {
   reads = reads-none g.D.Disk c.args.disk.now;
   size = refl;
   ends = λ class. omega (arith, zero_at 12 class);
+  rest = λ class from. zero_at 12 class;
+  placed = placed-none (g.I.Index.entries c.args.items.now.index) 0 _ c.requires.none;
+  counted = c.requires.counted;
   found = λ tells. finds-start (g.D.Disk.seen c.args.disk.now) c.args.share.worker
-      c.args.share.workers (g.I.Index.entries c.args.index.now) _ c.requires.none;
+      c.args.share.workers (g.I.Index.entries c.args.items.now.index) _ c.requires.none;
 }
 
 pub returns-in_err-seen-clause-reads : goal.returns-in_err-seen-clause-reads
@@ -29,13 +33,22 @@ loop-class-preserved g c =
           c.in_ok-seen.seen.end, size);
       ends = ends-next c.loop-class.ends c.loop-class.class c.in_ok-seen.seen.end
           (omega (arith, size)) c.in_ok-seen.ensures.end c.loop-class.invariant.ends;
+      rest = ends-rest c.loop-class.class c.in_ok-seen.seen.end c.loop-class.ends
+          c.loop-class.invariant.rest;
+      placed = placed-end (g.I.Index.entries c.find_class.new.items.index) c.in_ok-seen.seen.floor
+          c.loop-class.class c.in_ok-seen.seen.end c.loop-class.ends (omega (arith, size))
+          (c.in_ok-seen.ensures.placed (λ x. get_or c.loop-class.ends x 0)
+          (placed-begin (g.I.Index.entries c.loop-class.items.index) c.loop-class.floor
+          c.loop-class.class c.loop-class.ends (c.loop-class.invariant.rest c.loop-class.class
+          (omega arith)) c.loop-class.invariant.placed));
+      counted = c.in_ok-seen.ensures.counted;
       found = λ tells. finds-next (g.D.Disk.seen c.args.disk.now) c.args.share.worker
           c.args.share.workers c.loop-class.class _ _ c.loop-class.floor c.in_ok-seen.seen.floor
           c.in_ok-seen.seen.end c.loop-class.ends (omega (arith, size))
           (c.loop-class.invariant.found tells)
           (subst (λ image. FindsClass image c.args.share.worker c.args.share.workers
-          c.loop-class.class (g.I.Index.entries c.loop-class.index)
-          (g.I.Index.entries c.find_class.new.index) c.loop-class.floor c.in_ok-seen.seen.floor
+          c.loop-class.class (g.I.Index.entries c.loop-class.items.index)
+          (g.I.Index.entries c.find_class.new.items.index) c.loop-class.floor c.in_ok-seen.seen.floor
           c.in_ok-seen.seen.end) (c.loop-class.invariant.reads.seen tells)
           (c.in_ok-seen.ensures.found tells));
     }
@@ -44,5 +57,8 @@ pub returns-clause-found : goal.returns-clause-found
 returns-clause-found g c = λ tells.
     let last : c.loop-class.class ≡ 8 = omega arith in
     subst (λ n. FindsBelow (g.D.Disk.seen c.args.disk.now) c.args.share.worker
-    c.args.share.workers n (g.I.Index.entries c.loop-class.index) c.loop-class.floor
+    c.args.share.workers n (g.I.Index.entries c.loop-class.items.index) c.loop-class.floor
     c.loop-class.ends) last (c.loop-class.invariant.found tells)
+
+pub returns-clause-rest : goal.returns-clause-rest
+returns-clause-rest g c = λ class from. c.loop-class.invariant.rest class (omega arith)

@@ -1,5 +1,5 @@
 -- One class more.
-use Rattle.std.proofs.Common.{◌≡◌, ℕ, ◌+◌, ◌-◌, ◌<◌, ◌≤◌, List, [], ◌∷◌, ◌++◌, Result, Ok, Err, OnOk, IsOk, get_or, inl, inr, refl, sym, ap, ◌∙◌, subst, arith}
+use Rattle.std.proofs.Common.{length, length-append, ◌≡◌, ℕ, ◌+◌, ◌-◌, ◌<◌, ◌≤◌, List, [], ◌∷◌, ◌++◌, Result, Ok, Err, OnOk, IsOk, get_or, inl, inr, refl, sym, ap, ◌∙◌, subst, arith}
 use Rattle.kv_base.specs.Image.{Image}
 use Rattle.kv_base.proofs.CrashLemmas.{started, joins, weaker}
 use Rattle.kv_recover.specs.Free.{MayBeFreed, FreesBelow, HasStacks}
@@ -15,13 +15,12 @@ of_ok (Err e) P is p = absurd (cc)
 pub loop-class-init : goal.loop-class-init
 loop-class-init g c = record {
   room = refl;
+  count = c.requires.one;
   later = omega arith;
   done = λ first below. record {
     freed = below;
-    stacks_are = λ tells. subst (HasStacks (g.I.Index.entries c.args.index.now) first
-        (λ x. get_or c.args.ends.now x 0) 1) (sym c.requires.none)
-        (stacks-start (g.I.Index.entries c.args.index.now) first
-        (λ x. get_or c.args.ends.now x 0));
+    stacks_are = λ tells. stacks-start (g.I.Index.entries c.args.index.now) first
+        (λ x. get_or c.args.ends.now x 0) c.args.stacks.now.items c.requires.one;
   };
   any_moment = λ first below. started _ _ _ (λ image left. may-later
       (g.I.Index.entries c.args.index.now) first (λ x. get_or c.args.ends.now x 0) c.args.floor 1 0
@@ -46,6 +45,9 @@ loop-class-preserved g c =
     let items = of_ok c.append.result _ ok c.append.ensures.ok in
     record {
       room = omega (arith, c.requires.room);
+      count = let before = c.loop-class.invariant.count in
+          omega (arith, ap length items, length-append c.loop-class.stacks.items
+          (c.in_ok-stack.stack ∷ []), before);
       later = let before = c.loop-class.invariant.later in
           omega (arith, before, c.free_next.ensures.cause.later);
       done = λ first below.

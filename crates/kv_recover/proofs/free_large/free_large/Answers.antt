@@ -8,6 +8,7 @@ use Rattle.kv_recover.proofs.free_large.free_large.Goals as goal
 pub loop-class-init : goal.loop-class-init
 loop-class-init g c = record {
   room = omega (arith, c.requires.room);
+  count = c.requires.eight;
   later = omega arith;
   done = λ first below. below;
   any_moment = λ first below. started _ _ _ (λ image left. any-later
@@ -31,6 +32,8 @@ loop-class-preserved g c =
     let spare = c.in_ok-free_large_next.ensures.spare in
     record {
       room = omega arith;
+      count = let before = c.loop-class.invariant.count in
+          let next = c.in_ok-free_large_next.ensures.count in omega arith;
       later = let before = c.loop-class.invariant.later in
           omega (arith, before, c.free_large_next.ensures.cause.later);
       done = λ first below. c.in_ok-free_large_next.ensures.done first

@@ -1,5 +1,5 @@
 -- The classes so far are freed.
-use Rattle.std.proofs.Common.{◌≡◌, ℕ, ◌+◌, ◌≤◌, get_or}
+use Rattle.std.proofs.Common.{length, ◌≡◌, ℕ, ◌+◌, ◌≤◌, get_or}
 use Rattle.kv_base.specs.Image.{Image}
 use Rattle.kv_base.specs.Crash.{LeavesOnly}
 use Rattle.kv_recover.specs.FreeLarge.{AnyMayBeFreed, FreesAnyBelow}
@@ -8,6 +8,7 @@ use Rattle.kv_recover.proofs.free_large.free_large.Given as goal
 abbrev pub invariant-loop-class : goal.invariant-loop-class
 invariant-loop-class g l = record {
   room : 12 ≤ l.stacks.spare + l.class;
+  count : length l.stacks.items ≡ l.class;
   later : g.D.Disk.faults l.initial.disk ≤ g.D.Disk.faults l.disk;
   done : (first : Image)
       → FreesAnyBelow g.D.Disk (g.I.Index.entries l.index) first (λ c. get_or l.ends c 0) l.floor 8

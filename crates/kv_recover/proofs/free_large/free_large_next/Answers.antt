@@ -1,5 +1,5 @@
 -- The class is freed to its end.
-use Rattle.std.proofs.Common.{◌≡◌, ℕ, ◌+◌, ◌<◌, ◌≤◌, [], ◌∷◌, ◌++◌, Result, Ok, Err, OnOk, IsOk, refl, sym, ap, ◌∙◌, subst, arith}
+use Rattle.std.proofs.Common.{length, length-append, ◌≡◌, ℕ, ◌+◌, ◌<◌, ◌≤◌, [], ◌∷◌, ◌++◌, Result, Ok, Err, OnOk, IsOk, refl, sym, ap, ◌∙◌, subst, arith}
 use Rattle.kv_base.proofs.CrashLemmas.{weaker}
 use Rattle.kv_recover.specs.FreeLarge.{AnyMayBeFreed, FreesAnyBelow}
 use Rattle.kv_recover.proofs.FreeLargeSteps.{any-start, any-end, any-class}
@@ -39,3 +39,10 @@ returns-clause-done g c = λ first ends end_is below.
     (any-end g.D.Disk (g.I.Index.entries c.args.index.now) first ends c.args.floor c.args.class
     c.args.end end_is c.free_large_class.new.disk c.args.stacks.now.items
     c.free_large_class.new.stack below.stacks_are has)
+
+pub returns-clause-count : goal.returns-clause-count
+returns-clause-count g c =
+    let ok = c.append.ensures.room c.requires.room in
+    let items = of_ok c.append.result _ ok c.append.ensures.ok in
+    omega (arith, ap length items, length-append c.args.stacks.now.items
+    (c.free_large_class.new.stack ∷ []))

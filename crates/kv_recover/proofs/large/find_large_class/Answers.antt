@@ -57,7 +57,7 @@ returns-clause-found g c = λ tells.
     ∙ ap (λ image. image c.args.class page) (sym second)
     ∙ c.in_ok-check_blanks.ensures.ok tells page from below)
     (subst (λ image. HasFoundLarge image c.args.share.worker c.args.share.workers c.args.class 0
-    (g.I.Index.entries c.args.index.now) c.args.floor 0
+    (g.I.Index.entries c.args.items.now.index) c.args.floor 0
     → HasFoundLarge image c.args.share.worker c.args.share.workers c.args.class
-    c.slots_in-slots.result (g.I.Index.entries c.find_large_slots.new.index)
+    c.slots_in-slots.result (g.I.Index.entries c.find_large_slots.new.items.index)
     c.in_ok-seen.seen.floor c.in_ok-seen.seen.end) first (c.in_ok-seen.ensures.found tells))

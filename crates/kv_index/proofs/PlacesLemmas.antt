@@ -13,24 +13,24 @@ use Rattle.std.specs.FinMap.{find, is_sorted}
 use Rattle.std.specs.FinMap.Entries.{put, where_key, below_all}
 use Rattle.kv_index.specs.Places.{IsAt, IsGap}
 
-both : (a b : Bool) → T a → T b → T (a && b)
+pub both : (a b : Bool) → T a → T b → T (a && b)
 both true b p q = q
 both false b p q = p
 
-first : (a b : Bool) → T (a && b) → T a
+pub first : (a b : Bool) → T (a && b) → T a
 first true b p = tt
 first false b p = p
 
-second : (a b : Bool) → T (a && b) → T b
+pub second : (a b : Bool) → T (a && b) → T b
 second true b p = p
 second false b p = absurd p
 
-less : (r : Ordering) → T (is_lt r) → r ≡ Less
+pub less : (r : Ordering) → T (is_lt r) → r ≡ Less
 less Less p = refl
 less Equal p = absurd p
 less Greater p = absurd p
 
-is_less : (r : Ordering) → r ≡ Less → T (is_lt r)
+pub is_less : (r : Ordering) → r ≡ Less → T (is_lt r)
 is_less r e = subst (λ x. T (is_lt x)) (sym e) tt
 
 up_to : (r s : Ordering) → T (is_le s) → r ≡ s → T (is_le r)
@@ -40,10 +40,10 @@ up_to r s p e = subst (λ x. T (is_le x)) (sym e) p
 abbrev looked : {A : Type 0} → Ordering → A → A → A
 looked r a b = cond (is_eq r) a b
 
-abbrev kept : {A : Type 0} → Ordering → A → List A → List A
+abbrev pub kept : {A : Type 0} → Ordering → A → List A → List A
 kept r a b = cond (not (is_eq r)) (a ∷ b) b
 
-abbrev by : {A : Type 0} → Ordering → A → A → A → A
+abbrev pub by : {A : Type 0} → Ordering → A → A → A → A
 by Less a b c = a
 by Equal a b c = b
 by Greater a b c = c
@@ -176,7 +176,7 @@ module _ {K X : Type 0} {R : K → K → Ordering} (o : IsTotalOrder R) where
       ∙ find_between q k es i d (second (below_all R e.0 es) (is_sorted R es) s) h.1 up
       (λ lt. low (omega arith))
 
-  below_get : (x : K) (es : List (K × X)) (i : ℕ) (d : K × X) → T (below_all R x es) → i < length es
+  pub below_get : (x : K) (es : List (K × X)) (i : ℕ) (d : K × X) → T (below_all R x es) → i < length es
       → R x (get_or es i d).0 ≡ Less
   below_get x [] i d h lt = absurd (omega arith)
   below_get x (e ∷ es) zero d h lt = less _ (first (is_lt (R x e.0)) (below_all R x es) h)

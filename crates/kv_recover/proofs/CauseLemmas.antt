@@ -9,7 +9,8 @@ use Rattle.kv_slot.proofs.HeadLemmas.{zeros_no_head}
 use Rattle.kv_recover.specs.declared.fault.OpenFault.{OpenFault}
 use Rattle.kv_recover.specs.declared.fault.OpenFault.TheVariants.{NotAStore, OtherStore, StampsSpent}
 use Rattle.kv_recover.specs.declared.fault.OpenFault.TheVariants.{DiskFault, NoMemory}
-use Rattle.kv_recover.specs.Causes.{HasReadCause, HasMakeCause, IsUsed}
+use Rattle.kv_recover.specs.Causes.{HasReadCause, HasHeadCause, HasMakeCause, IsUsed}
+use Rattle.kv_recover.specs.Causes.{IsPastEnd, IsNoOthers}
 
 -- a count that rose in a part of the calls rose in all
 pub rose-since : (before mid after : ℕ) → before ≤ mid → Rose mid after → Rose before after
@@ -43,3 +44,44 @@ make-cause tells first now worker workers before mid after (StampsSpent stamp) u
 make-cause tells first now worker workers before mid after DiskFault up same zero cause =
     rose-since before mid after up cause
 make-cause tells first now worker workers before mid after NoMemory up same zero cause = tt
+
+-- a disk whose head page is refused
+pub head-cause : (tells : Type 0) (first : Image) (worker workers before after : ℕ)
+    (fault : OpenFault) → HasHeadCause tells (first 0 0) worker workers before after fault
+    → HasMakeCause tells first worker workers before after fault
+head-cause tells first worker workers before after NotAStore cause = λ told. (
+  inl (cause told),
+  (λ a b head. absurd ((cause told).1 a b head)),
+)
+head-cause tells first worker workers before after (OtherStore a b c d) cause = cause
+head-cause tells first worker workers before after (StampsSpent stamp) cause = absurd cause
+head-cause tells first worker workers before after DiskFault cause = cause
+head-cause tells first worker workers before after NoMemory cause = tt
+
+-- a disk with a byte past the most slots of a class
+pub past-cause : (tells : Type 0) (first : Image) (worker workers before mid after : ℕ)
+    (fault : OpenFault) → before ≤ mid → (tells → IsNoOthers (first 0 0) worker workers)
+    → HasReadCause (tells → IsPastEnd first) mid after fault
+    → HasMakeCause tells first worker workers before after fault
+past-cause tells first worker workers before mid after NotAStore up own cause = λ told. (
+  inr (inr (cause told)),
+  own told,
+)
+past-cause tells first worker workers before mid after (OtherStore a b c d) up own cause =
+    absurd cause
+past-cause tells first worker workers before mid after (StampsSpent stamp) up own cause =
+    absurd cause
+past-cause tells first worker workers before mid after DiskFault up own cause =
+    rose-since before mid after up cause
+past-cause tells first worker workers before mid after NoMemory up own cause = tt
+
+-- the refusal of a disk that reads as another one does
+pub at_first : (tells : Type 0) (now first : Image) (before after : ℕ) (fault : OpenFault)
+    → (tells → now ≡ first) → HasReadCause (tells → IsPastEnd now) before after fault
+    → HasReadCause (tells → IsPastEnd first) before after fault
+at_first tells now first before after NotAStore same cause = λ told.
+    subst IsPastEnd (same told) (cause told)
+at_first tells now first before after (OtherStore a b c d) same cause = cause
+at_first tells now first before after (StampsSpent stamp) same cause = cause
+at_first tells now first before after DiskFault same cause = cause
+at_first tells now first before after NoMemory same cause = tt

@@ -1,6 +1,6 @@
 -- How many entries of a class there are once a key has a new one.
 use Rattle.std.proofs.Common.{◌≡◌, ◌⊎◌, inl, inr, ℕ, ◌+◌, ◌-◌, ◌<◌, ◌≤◌, ◌^◌, Bool, true, false, cond, eqb}
-use Rattle.std.proofs.Common.{List, [], ◌∷◌, length, get_or, Option, None, Some, Ordering, Less, Equal}
+use Rattle.std.proofs.Common.{List, [], ◌∷◌, length, get_or, replicate, Option, None, Some, Ordering, Less, Equal}
 use Rattle.std.proofs.Common.{Greater, IfSome, refl, sym, ap, ◌∙◌, subst, arith}
 use Rattle.std.specs.Prelude.{count_by, ◌&&◌, T, is_some}
 use Rattle.std.specs.Ordering.{nat_cmp, is_eq, is_lt, eq_by_cmp}
@@ -14,6 +14,12 @@ use Rattle.kv_index.specs.declared.entry.Entry.{Entry}
 use Rattle.kv_index.specs.Entries.{Entries}
 use Rattle.kv_recover.specs.Placed.{items_in, one_of, HasCounts}
 use Rattle.kv_recover.proofs.FoundLemmas.{get_put}
+use Rattle.kv_recover.proofs.SlabLemmas.{zero_at}
+
+-- a list without items
+no_items : {A : Type 0} (xs : List A) → length xs ≡ 0 → xs ≡ []
+no_items [] none = refl
+no_items (x ∷ xs) none = absurd (omega arith)
 
 -- the order of keys
 abbrev order : List ℕ → List ℕ → Ordering
@@ -203,4 +209,19 @@ counted-next entries counts key entry dropped added later counted low drops size
             let now : get_or added class 0 ≡ items_in (finite.insert entries key entry) class =
             omega (arith, total, before, drop, added_is, none) in now
       ]) ∙ ap (λ m. items_in m class) (sym is);
+}
+
+-- no entries, and no counts
+pub counted-none : (entries : Entries) → entries ≡ finite.empty
+    → HasCounts entries (replicate 12 0)
+counted-none entries none = record {
+  size = refl;
+  within = λ key entry has. absurd (let nothing : None ≡ Some entry =
+      sym (finite.get-empty {X = Entry} order key) ∙ sym (ap (λ m. finite.get m key) none) ∙ has in
+      cc);
+  count = λ class within.
+      let empty : finite.entries entries ≡ [] = ap finite.entries none
+          ∙ no_items (finite.entries finite.empty) (sym (finite.len-entries finite.empty)
+          ∙ finite.len-empty order Entry) in
+      zero_at 12 class ∙ sym (ap (of_class class) empty);
 }

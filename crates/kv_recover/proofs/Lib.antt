@@ -15,9 +15,11 @@ pub mod CountLemmas
 pub mod PlacedLemmas
 pub mod FreeLargeLemmas
 pub mod OpenedLemmas
+pub mod ListedLemmas
 pub mod FreeSteps
 pub mod FreeLargeSteps
 pub mod CauseLemmas
 pub mod OpenSteps
 pub mod PrepareSteps
 pub mod PartsSteps
+pub mod ReadingLemmas

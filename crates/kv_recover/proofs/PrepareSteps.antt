@@ -59,7 +59,7 @@ class_within class has = elim (cases_lt class 1) [
 ]
 
 -- a page is the head of one worker of one number of workers
-same_head : (page : List ℕ) (a b worker workers : ℕ) → IsHead page a b
+pub same_head : (page : List ℕ) (a b worker workers : ℕ) → IsHead page a b
     → IsHead page worker workers → (a ≡ worker) × (b ≡ workers)
 same_head page a b worker workers head own = (
   sym (worker_in page a b head) ∙ worker_in page worker workers own,

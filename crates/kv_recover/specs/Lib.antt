@@ -10,3 +10,4 @@ pub mod Lists
 pub mod Opened
 pub mod HeadCheck
 pub mod Causes
+pub mod Listed

@@ -1,5 +1,6 @@
 ghost use Rattle.std.specs.Prelude.{◌≡◌, ℕ, ◌+◌, ◌-◌, ◌^◌, ◌<◌, ◌≤◌, OnOk, Option, IfSome, length};
 ghost use Rattle.std.specs.Prelude.{slice_index};
+ghost use Rattle.std.specs.FinMap as finite;
 ghost use Rattle.kv_recover.specs.Found.{is_older, with_newer};
 ghost use Rattle.kv_recover.specs.Placed.{HasCounts, one_of};
 
@@ -8,11 +9,26 @@ use kv_index::{Entry, Index};
 use std::alloc::Global;
 
 /// The items that were found so far.
+#[derive(Drop)]
 pub struct Items<I> {
     /// The entry of each key.
     pub index: I,
     /// The number of entries of each class, by its number.
     pub counts: [u32; 12],
+}
+
+impl<I: Index> Items<I> {
+    /// No items yet, in an index that is empty.
+    pub fn new(index: I) -> Items<I>
+        requires none { I.entries index ≡ finite.empty }
+        ensures index { result.index ≡ index }
+        ensures counted { HasCounts (I.entries result.index) result.counts }
+    {
+        Items {
+            index,
+            counts: [0; 12],
+        }
+    }
 }
 
 /// Gives the key this entry, unless it has one whose stamp isn't less. The one error is want of

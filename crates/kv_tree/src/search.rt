@@ -1,0 +1,67 @@
+ghost use Rattle.std.specs.Prelude.{length, IfOk, IfErr};
+ghost use Rattle.std.specs.Prelude.{◌≡◌, ◌≤◌, List, ℕ, take};
+ghost use Rattle.kv_tree.specs.Subtree.{Past};
+ghost use Rattle.std.specs.List.Sorted.{IsSearchInRange};
+ghost use Rattle.std.specs.Ordering.{nat_cmp};
+ghost use Rattle.std.specs.Cmp.Lexicographic.{slice_cmp};
+ghost use Rattle.kv_index.specs.Places.{HasRisingKeys, IsAt, IsGap};
+ghost use Rattle.kv_tree.specs.Head.{HasHead};
+
+use crate::item::Item;
+use std::cmp::Ordering;
+
+/// Where the key stands, or else where it would.
+pub fn place_of(items: &[Item], number: u64, key: &[u8]) -> Result<usize, usize>
+    requires rising { HasRisingKeys (slice_cmp nat_cmp) items.now }
+    requires number { HasHead key.now number }
+    ensures bound { IsSearchInRange result (length items.now) }
+    ensures found { IfOk result (IsAt (slice_cmp nat_cmp) key.now items.now) }
+    ensures absent { IfErr result (IsGap (slice_cmp nat_cmp) key.now items.now) }
+{
+    let at = count_below(items, number);
+    if at == items.len() {
+        return Err(at);
+    }
+    match items[at].cmp_key(number, key) {
+        Ordering::Equal => Ok(at),
+        Ordering::Greater => Err(at),
+        Ordering::Less => search(items, number, key),
+    }
+}
+
+// How many items come before each key with this head, by their heads alone. The ends come first,
+// for keys in order. Then all heads are looked at, which takes no branch that may be guessed wrong.
+fn count_below(items: &[Item], number: u64) -> usize
+    requires { HasRisingKeys (slice_cmp nat_cmp) items.now }
+    ensures bound { result ≤ length items.now }
+    ensures past { (key : List ℕ) → HasHead key number → Past key (take result items.now) }
+{
+    let len = items.len();
+    if len == 0 || items[0].below(number) == 0 {
+        return 0;
+    }
+    if items[len - 1].below(number) == 1 {
+        return len;
+    }
+    let mut at: usize = 0;
+    for item in items {
+        at += item.below(number);
+    }
+    at
+}
+
+// The same by halves, for items whose heads are alike.
+fn search(items: &[Item], number: u64, key: &[u8]) -> Result<usize, usize>
+    requires rising { HasRisingKeys (slice_cmp nat_cmp) items.now }
+    requires number { HasHead key.now number }
+    ensures bound { IsSearchInRange result (length items.now) }
+    ensures found { IfOk result (IsAt (slice_cmp nat_cmp) key.now items.now) }
+    ensures absent { IfErr result (IsGap (slice_cmp nat_cmp) key.now items.now) }
+{
+    items.binary_search_by(
+        |item: &Item| -> Ordering
+            ensures { HasHead key.entry.now number → result
+                ≡ slice_cmp nat_cmp item.now.0 key.entry.now }
+        { item.cmp_key(number, key) },
+    )
+}

@@ -12,7 +12,8 @@ use Rattle.std.proofs.lemmas.Cmp.{nat_list_cmp_total}
 use Rattle.std.proofs.lemmas.List.Sums.{count_by-le-length, sum_by-cons}
 use Rattle.kv_index.specs.declared.entry.Entry.{Entry}
 use Rattle.kv_index.specs.Entries.{Entries}
-use Rattle.kv_recover.specs.Placed.{items_in, one_of, HasCounts}
+use Rattle.kv_slab.specs.Memory.{items_in}
+use Rattle.kv_recover.specs.Placed.{one_of, HasCounts}
 use Rattle.kv_recover.proofs.FoundLemmas.{get_put}
 use Rattle.kv_recover.proofs.SlabLemmas.{zero_at}
 
@@ -131,9 +132,12 @@ items_in-insert entries key entry class =
 
 -- a class has no more entries than there are
 pub items_in-len : (entries : Entries) (class : ℕ) → items_in entries class ≤ finite.len entries
-items_in-len entries class = omega (arith, finite.len-entries entries,
-    count_by-le-length (λ (pair : List ℕ × Entry). eqb pair.1.place.class class)
-    (finite.entries entries))
+items_in-len entries class = omega (
+  arith,
+  finite.len-entries entries,
+  count_by-le-length (λ (pair : List ℕ × Entry). eqb pair.1.place.class class)
+      (finite.entries entries),
+)
 
 -- a class of which a key has an entry has one at least
 count_found : (class : ℕ) (k : List ℕ) (v : Entry) (es : List (List ℕ × Entry))
@@ -221,7 +225,7 @@ counted-none entries none = record {
       cc);
   count = λ class within.
       let empty : finite.entries entries ≡ [] = ap finite.entries none
-          ∙ no_items (finite.entries finite.empty) (sym (finite.len-entries finite.empty)
-          ∙ finite.len-empty order Entry) in
+      ∙ no_items (finite.entries finite.empty) (sym (finite.len-entries finite.empty)
+      ∙ finite.len-empty order Entry) in
       zero_at 12 class ∙ sym (ap (of_class class) empty);
 }

@@ -136,9 +136,12 @@ module _ (entries : Entries) (first : Image) (ends : ℕ → ℕ) (floor class s
         → LargeMayBeFreed entries first ends floor class (slot + 1) now c s
     further c s same may = elim may [
       | inl was ↦ inl (same ∙ was)
-      | inr freed ↦ inr (up c s freed.0, freed.1,
+      | inr freed ↦ inr (
+        up c s freed.0,
+        freed.1,
         subst (IsFreedLarge entries (reading_of first) c floor s (large_slot first c s)) (sym same)
-        freed.2)
+            freed.2,
+      )
     ]
 
     small_same : (c s : ℕ) → c ≤ 7 → small_slot now c s ≡ small_slot old c s
@@ -166,19 +169,25 @@ module _ (entries : Entries) (first : Image) (ends : ℕ → ℕ) (floor class s
       any-put may = record {
         slots = λ c s c_low c_high. elim (may.slots c s c_low c_high) [
           | inl same ↦ inl (small_same c s c_high ∙ same)
-          | inr freed ↦ inr (freed.0, freed.1,
+          | inr freed ↦ inr (
+            freed.0,
+            freed.1,
             subst (IsFreedSlot entries (reading_of first) c floor s)
-            (sym (small_same c s c_high)) freed.2)
+                (sym (small_same c s c_high)) freed.2,
+          )
         ];
         large = λ c s c_low c_high. elim (cases_eq c class) [
           | inl same ↦ subst (λ x. LargeMayBeFreed entries first ends floor class (slot + 1) now x
               s) (sym same) (elim (cases_eq s slot) [
                 | inl here ↦ subst (LargeMayBeFreed entries first ends floor class (slot + 1) now
-                    class) (sym here) (inr (inr (refl, omega arith), free,
-                    freed_here (elim (may.large class slot low high) [
-                      | inl was ↦ was
-                      | inr freed ↦ absurd (omega (arith, freed.0))
-                    ])))
+                    class) (sym here) (inr (
+                      inr (refl, omega arith),
+                      free,
+                      freed_here (elim (may.large class slot low high) [
+                        | inl was ↦ was
+                        | inr freed ↦ absurd (omega (arith, freed.0))
+                      ]),
+                    ))
                 | inr other ↦ further class s (other_slot s other) (may.large class s low high)
               ])
           | inr other ↦ further c s (other_file c s other) (may.large c s c_low c_high)

@@ -164,7 +164,7 @@ module _ (entries : Entries) (first : Image) (ends : ℕ → ℕ) (floor class n
                         inr (refl, below),
                         free,
                         subst (IsFreedSlot entries (reading_of first) class floor s) (sym here)
-                        (frees.freed s at below free),
+                            (frees.freed s at below free),
                       )
                       | inr not_free ↦ inl (here ∙ page_kept s at (λ _ free. not_free free))
                     ]

@@ -77,7 +77,7 @@ module _ {D : Type 0} (d : Ghosts D) (told : Told d) (entries : Entries) (first 
         low high start start_is after limit within (d.seen mid) page (page_mid tells) (seen-mid tells))
         (has.list tells) in (
           subst (λ n. FreesPage entries (reading_of first) n class floor number last page content)
-          (sym end_is) both.0,
+              (sym end_is) both.0,
           both.1,
         )
 
@@ -200,7 +200,13 @@ pub stacks-next : (entries : Entries) (first : Image) (ends : ℕ → ℕ) (clas
     → StandsFor stack (free_slots entries (reading_of first) class (ends class))
     → HasStacks entries first ends (class + 1) (stacks ++ stack ∷ [])
 stacks-next entries first ends class stacks stack has stands = record {
+  some = omega arith;
   count = omega (arith, length-append stacks (stack ∷ []), has.count);
+  none = λ tail is. elim (get-push stacks stack tail 0 is) [
+    | inl within ↦ has.none tail within
+    | inr last ↦ absurd (let count = has.count in let some = has.some in let place = last.0 in
+        omega arith)
+  ];
   each = λ c tail low is. elim (get-push stacks stack tail c is) [
     | inl within ↦ has.each c tail low within
     | inr last ↦
@@ -213,8 +219,12 @@ stacks-next entries first ends class stacks stack has stands = record {
 
 -- the stack of class 0 alone
 pub stacks-start : (entries : Entries) (first : Image) (ends : ℕ → ℕ) (stacks : List Tail)
-    → length stacks ≡ 1 → HasStacks entries first ends 1 stacks
-stacks-start entries first ends stacks one = record {
+    → length stacks ≡ 1
+    → ((stack : Tail) → slice_get stacks 0 ≡ Some stack → StandsFor stack [])
+    → HasStacks entries first ends 1 stacks
+stacks-start entries first ends stacks one empty = record {
+  some = omega arith;
   count = one;
+  none = empty;
   each = λ c stack low is. absurd (let within = get-within stacks stack c is in omega arith);
 }

@@ -65,9 +65,9 @@ later-next pages page stamp floor whole blank whole_now blank_now greatest now l
           ∙ sym (list_all-push (λ p. eqb (stamp_field p) stamp) pages page);
       blank_is = (
         (λ is. let parts = blank_to is in
-        zeros-push pages page (later.blank_is.0 parts.0) parts.1),
+            zeros-push pages page (later.blank_is.0 parts.0) parts.1),
         (λ all. let parts = zeros-front pages page all in
-        blank_from (later.blank_is.1 parts.0) parts.1),
+            blank_from (later.blank_is.1 parts.0) parts.1),
       );
       greatest_is = subst (IsGreatest floor (map stamp_field (pages ++ page ∷ []))) (sym now_is)
           (subst (λ xs. IsGreatest floor xs (max greatest (stamp_field page)))

@@ -23,3 +23,4 @@ pub mod OpenSteps
 pub mod PrepareSteps
 pub mod PartsSteps
 pub mod ReadingLemmas
+pub mod JoinLemmas

@@ -61,8 +61,11 @@ listing-next all old new before after listing takes =
       | inl same ↦ absurd (let none : None ≡ Some entry = sym (get_removed old kept.key)
           ∙ sym (ap (finite.get (finite.remove old kept.key)) same)
           ∙ sym (ap (λ m. finite.get m key) takes.rest) ∙ has in cc)
-      | inr other ↦ (sym (get_removed_other old kept.key key other)
-          ∙ sym (ap (λ m. finite.get m key) takes.rest) ∙ has, other)
+      | inr other ↦ (
+        sym (get_removed_other old kept.key key other)
+            ∙ sym (ap (λ m. finite.get m key) takes.rest) ∙ has,
+        other,
+      )
     ]) in
     let get_after : (i : ℕ) (x : Kept) → slice_get after i ≡ Some x
     → (slice_get before i ≡ Some x) ⊎ ((i ≡ length before) × (kept ≡ x)) = λ i x is.
@@ -76,15 +79,22 @@ listing-next all old new before after listing takes =
       still = λ key entry has. listing.still key entry (left key entry has).0;
       every = λ key entry has. elim (listing.every key entry has) [
         | inl now ↦ elim (same_or_other key kept.key) [
-          | inl same ↦ inr (length before, kept,
-            ap (λ xs. slice_get xs (length before)) takes.list ∙ get-last before kept, sym same)
+          | inl same ↦ inr (
+            length before,
+            kept,
+            ap (λ xs. slice_get xs (length before)) takes.list ∙ get-last before kept,
+            sym same,
+          )
           | inr other ↦ inl (ap (λ m. finite.get m key) takes.rest
               ∙ get_removed_other old kept.key key other ∙ now)
         ]
-        | inr was ↦ inr (was.0, was.1,
+        | inr was ↦ inr (
+          was.0,
+          was.1,
           ap (λ xs. slice_get xs was.0) takes.list
-          ∙ get-left before (kept ∷ []) was.0 (get-within before was.1 was.0 was.2) ∙ was.2,
-          was.3)
+              ∙ get-left before (kept ∷ []) was.0 (get-within before was.1 was.0 was.2) ∙ was.2,
+          was.3,
+        )
       ];
       order = λ i x key entry is has. elim (get_after i x is) [
         | inl was ↦ listing.order i x key entry was (left key entry has).0
@@ -138,15 +148,13 @@ pub listing-step : (more : Bool) (all old new : Entries) (before after : List Ke
 listing-step true all old new before after listing takes =
     let some = some_len old takes.kept.key (entry_of takes.kept) takes.least.found in
     let fewer : finite.len new ≡ finite.len old - 1 = ap finite.len takes.rest
-    ∙ len_removed old takes.kept.key (entry_of takes.kept) takes.least.found in
-    (
+    ∙ len_removed old takes.kept.key (entry_of takes.kept) takes.least.found in (
       listing-next all old new before after listing takes,
       (λ is. absurd (cc)),
       omega arith,
     )
 listing-step false all old new before after listing none =
-    let same : finite.len new ≡ finite.len old = ap finite.len none.1 in
-    (
+    let same : finite.len new ≡ finite.len old = ap finite.len none.1 in (
       subst (IsListing all new) (sym none.2) (subst (λ m. IsListing all m before) (sym none.1) listing),
       (λ _. subst (λ m. HasNoneFrom m []) (sym none.1) none.0),
       omega arith,

@@ -274,6 +274,7 @@ module _ {D : Type 0} (d : Ghosts D) (told : Told d) (worker workers : ℕ) (old
               floor_is = floor-stays (d.seen old) worker workers floor entries (holds tells)
                   (λ c. get_or ends c 0) fits (d.seen freed) may (floor-found tells);
               count = omega (arith, lists.count);
+              none = lists.none;
               lists = λ class stack low has.
                   let within = get-within stacks stack class has in
                   let count = lists.count in

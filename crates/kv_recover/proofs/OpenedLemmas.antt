@@ -34,6 +34,7 @@ use Rattle.kv_recover.proofs.SlabLemmas.{read_zeros}
 use Rattle.kv_recover.proofs.FindLemmas.{slot_at-none, heads_at-none}
 use Rattle.kv_recover.proofs.FreeLemmas.{is_free}
 use Rattle.kv_recover.proofs.FilteredLemmas.{nth, all, rises}
+use Rattle.kv_recover.proofs.PageLemmas.{free_slots-same}
 use Rattle.kv_recover.proofs.EntryLemmas.{item_of, option_cases, one_floor, same_link}
 
 pub class_cases : (c : ℕ) → ((1 ≤ c) × (c ≤ 7)) ⊎ (((8 ≤ c) × (c ≤ 11)) ⊎ ((0 ≡ c) ⊎ (12 ≤ c)))
@@ -55,9 +56,37 @@ not_any (x ∷ xs) c all = or_from (eqb x c) (list_any (λ other. eqb other c) x
     (ne_eqb x c (λ is. let below : x < c = all.0 in omega arith)) (not_any xs c all.1)
 
 pub no_class : (c : ℕ) → 12 ≤ c → has_class all_classes c ≡ false
-no_class c past = not_any all_classes.classes c (omega arith, (omega arith, (omega arith,
-    (omega arith, (omega arith, (omega arith, (omega arith, (omega arith, (omega arith, (omega arith,
-    (omega arith, tt)))))))))))
+no_class c past = not_any all_classes.classes c (
+  omega arith,
+  (
+    omega arith,
+    (
+      omega arith,
+      (
+        omega arith,
+        (
+          omega arith,
+          (
+            omega arith,
+            (
+              omega arith,
+              (
+                omega arith,
+                (
+                  omega arith,
+                  (
+                    omega arith,
+                    (omega arith, tt),
+                  ),
+                ),
+              ),
+            ),
+          ),
+        ),
+      ),
+    ),
+  ),
+)
 
 -- a class that doesn't exist has no slot in use
 pub at_none : (image : Image) (c s : ℕ) → (0 ≡ c) ⊎ (12 ≤ c)
@@ -223,7 +252,7 @@ module _ (first : Image) (worker workers floor : ℕ) (entries : Entries)
           let before = holds.each key entry has in (
             before.0,
             kept_still (reading_of first) (reading_of image) worker workers floor frees key
-            (copy_of entry before.0) before.1,
+                (copy_of entry before.0) before.1,
           );
       none = λ key none copy found. holds.none key none copy
           (found_before (reading_of first) (reading_of image) worker workers floor frees key
@@ -245,8 +274,11 @@ module _ (first : Image) (worker workers floor : ℕ) (entries : Entries)
         | inr not_free ↦ inl (freed.kept c s low high not_free)
       ];
       large = λ c s low high. elim (is_free entries (reading_of first) (get_or ends c 0) c s) [
-        | inl free ↦ inr (inl (omega arith), free,
-          freed.large_freed c s low high (inl (omega arith)) free)
+        | inl free ↦ inr (
+          inl (omega arith),
+          free,
+          freed.large_freed c s low high (inl (omega arith)) free,
+        )
         | inr not_free ↦ inl (freed.large_kept c s low high (λ _ free. not_free free))
       ];
       others = freed.others;
@@ -331,10 +363,22 @@ module _ (first : Image) (worker workers floor : ℕ) (entries : Entries)
         slot_is = has.slot_is;
       }
 
+      -- what stands in a slot that wasn't freed
+      kept_reads : (s : ℕ) → (IsFree entries (reading_of first) (get_or ends c 0) c s → ⊥)
+          → reading_of now c s ≡ reading_of first c s
+      kept_reads s not_free = elim (cases_lt c 8) [
+        | inl small ↦ slot_at-small now c s low (omega arith)
+            ∙ ap (read_small all_classes c) (freed.kept c s low (omega arith) not_free)
+            ∙ sym (slot_at-small first c s low (omega arith))
+        | inr large ↦ slot_at-large now c s large high
+            ∙ ap (read_large all_classes c) (freed.large_kept c s large high (λ _ free. not_free free))
+            ∙ sym (slot_at-large first c s large high)
+      ]
+
       -- the list of a class
       pub has-list : (stack : Tail) → IsEndOf first c (get_or ends c 0)
           → StandsFor stack (free_slots entries (reading_of first) c (get_or ends c 0))
-          → HasClassList now worker workers floor c (get_or ends c 0) stack
+          → HasClassList now worker workers entries floor c (get_or ends c 0) stack
       unfolding free_slots
       has-list stack end stands =
           let end_c = get_or ends c 0 in
@@ -346,6 +390,12 @@ module _ (first : Image) (worker workers floor : ℕ) (entries : Entries)
           record { below = at.below; none = not-true _ at.passes }) in
           record {
             list = list;
+            list_is = free_slots-same entries (reading_of first) (reading_of now) c end_c
+                (λ s below. elim (is_free entries (reading_of first) end_c c s) [
+                  | inl free ↦ free.none ∙ sym (ap (is_entry entries c s)
+                      (reads_freed c low high s free))
+                  | inr not_free ↦ ap (is_entry entries c s) (sym (kept_reads s not_free))
+                ]);
             end_is = end-stays c low high end;
             free = record {
               rising = λ i j s t less one two. rises p end_c i j s t less one two;

@@ -36,9 +36,11 @@ use Rattle.kv_recover.proofs.PrepareSteps.{prepared-slabs, prepared-opens, prepa
 blank-heads : (image : Image) → AreBlank image → (c s : ℕ)
     → AllByRecursion (λ n. n ≡ 0) (heads_at all_classes image c s)
 blank-heads image blank c s = elim (class_cases c) [
-  | inl small ↦ subst (AllByRecursion (λ n. n ≡ 0)) (sym (heads_at-small image c s small.0 small.1))
-      (stamp_zeros (small_slot image c s)
-      (slot-zeros image c s (blank c (page_of c s) small.0 (omega (arith, small.1)))), tt)
+  | inl small ↦ subst (AllByRecursion (λ n. n ≡ 0)) (sym (heads_at-small image c s small.0 small.1)) (
+    stamp_zeros (small_slot image c s)
+        (slot-zeros image c s (blank c (page_of c s) small.0 (omega (arith, small.1)))),
+    tt,
+  )
   | inr other ↦ elim other [
     | inl large ↦
         let low : 1 ≤ c = omega (arith, large.0) in
@@ -107,11 +109,18 @@ module _ {D : Type 0} (d : Ghosts D) (told : Told d) (worker workers : ℕ) (old
         → HasSlabCause (IsTrue d.tells) (d.seen mid) between after fault
         → HasOpenCause (IsTrue d.tells) (d.seen old) worker workers before after fault
     parts-cause NotAStore before between after up cause = λ tells.
-        let past = cause tells in
-        (
-          inr (inr (past.0, past.1, past.2, (past.3.0, past.3.1,
-          (λ zeros. past.3.2 (prepared-slabs d worker workers old mid tells (prepared tells) past.0
-          past.3.0 past.1 ∙ zeros))))),
+        let past = cause tells in (
+          inr (inr (
+            past.0,
+            past.1,
+            past.2,
+            (
+              past.3.0,
+              past.3.1,
+              (λ zeros. past.3.2 (prepared-slabs d worker workers old mid tells (prepared tells) past.0
+                  past.3.0 past.1 ∙ zeros)),
+            ),
+          )),
           prepared-own d worker workers old mid tells (prepared tells) below limit,
         )
     parts-cause (OtherStore a b x y) before between after up cause = absurd cause
@@ -119,9 +128,9 @@ module _ {D : Type 0} (d : Ghosts D) (told : Told d) (worker workers : ℕ) (old
       cause.0,
       (λ tells. (
         subst (λ heads. IsFloor heads stamp) (same_heads (d.seen mid) (d.seen old)
-        (prepared-slabs d worker workers old mid tells (prepared tells))) (cause.1 tells).0,
+            (prepared-slabs d worker workers old mid tells (prepared tells))) (cause.1 tells).0,
         prepared-opens d worker workers old mid tells (prepared tells) below limit
-        (cause.1 tells).1,
+            (cause.1 tells).1,
       )),
     )
     parts-cause DiskFault before between after up cause = rose-since before between after up cause

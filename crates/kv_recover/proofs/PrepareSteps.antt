@@ -93,8 +93,10 @@ store-made first worker workers zero blank =
         bounded = λ class page has from. sym (same class page (class_within class has).0)
             ∙ is.bounded class page has from;
       };
-      head = inr (record { head = zero; slabs = blank },
-        with_page-here first 0 0 (head_page worker workers));
+      head = inr (
+        record { head = zero; slabs = blank },
+        with_page-here first 0 0 (head_page worker workers),
+      );
     }
 
 -- the slabs of a store are kept
@@ -154,8 +156,11 @@ module _ {D : Type 0} (d : Ghosts D) (told : Told d) (worker workers : ℕ) (old
       (IsTrue d.tells) (λ t f p c left. (told new t f p c left).0) run
       (λ image tells made. elim made [
         | inl same ↦ inl (same ∙ reads.seen tells)
-        | inr with_head ↦ inr (blank tells, with_head
-            ∙ ap (λ first. with_page first 0 0 (head_page worker workers)) (reads.seen tells))
+        | inr with_head ↦ inr (
+          blank tells,
+          with_head
+              ∙ ap (λ first. with_page first 0 0 (head_page worker workers)) (reads.seen tells),
+        )
       ]))
 
 module _ {D : Type 0} (d : Ghosts D) (told : Told d) (worker workers : ℕ) (old synced read : D)

@@ -1,6 +1,6 @@
 -- The slots that are freed while a disk is opened, and what they are written with.
 use Rattle.std.specs.Prelude.{◌≡◌, ◌⊎◌, ℕ, ◌<◌, ◌≤◌, ◌^◌, List, Option, None, Some, IfSome, IsTrue}
-use Rattle.std.specs.Prelude.{Bool, true, false, not, nat_lt, ◌==◌, ◌&&◌, ◌+◌, ◌-◌, length, slice_get}
+use Rattle.std.specs.Prelude.{[], Bool, true, false, not, nat_lt, ◌==◌, ◌&&◌, ◌+◌, ◌-◌, length, slice_get}
 use Rattle.std.specs.List.{filter, range_with_len}
 use Rattle.std.specs.FinMap as finite
 use Rattle.kv_base.specs.Image.{Image}
@@ -108,7 +108,9 @@ pub record HasFreedBelow {D : Type 0} (d : Ghosts D) (entries : Entries) (first 
 -- of each class below this one there is a stack, which has the class's free slots
 pub record HasStacks (entries : Entries) (first : Image) (ends : ℕ → ℕ) (class : ℕ)
     (stacks : List Tail) : Type 0 where
+  pub some : 1 ≤ class
   pub count : length stacks ≡ class
+  pub none : (stack : Tail) → slice_get stacks 0 ≡ Some stack → StandsFor stack []
   pub each : (c : ℕ) (stack : Tail) → 1 ≤ c → slice_get stacks c ≡ Some stack
       → StandsFor stack (free_slots entries (reading_of first) c (ends c))
 

@@ -11,3 +11,4 @@ pub mod Opened
 pub mod HeadCheck
 pub mod Causes
 pub mod Listed
+pub mod Store

@@ -1,5 +1,5 @@
 -- What opening a disk of all classes keeps and gives.
-use Rattle.std.specs.Prelude.{◌≡◌, ◌⊎◌, ℕ, ◌<◌, ◌≤◌, ◌-◌, List, length, slice_get, slice_index, Some}
+use Rattle.std.specs.Prelude.{◌≡◌, ◌⊎◌, ℕ, ◌<◌, ◌≤◌, ◌-◌, List, [], length, slice_get, slice_index, Some}
 use Rattle.kv_base.specs.Image.{Image, zero_page, with_page}
 use Rattle.kv_free.specs.FreeList.{Tail, StandsFor}
 use Rattle.kv_index.specs.Entries.{Entries}
@@ -9,6 +9,7 @@ use Rattle.kv_model.specs.Recovery.{OpensAs, IsNew, most_pages}
 use Rattle.kv_base.specs.Crash.{MayLeave}
 use Rattle.kv_disk.specs.declared.disk.Disk.{Ghosts}
 use Rattle.kv_model.specs.Reading.{slot_at, heads_at, small_slot, large_slot, IsFloor}
+use Rattle.kv_recover.specs.Free.{free_slots}
 use Rattle.kv_recover.specs.Freed.{KeepsSame}
 use Rattle.kv_recover.specs.Found.{HoldsKept}
 use Rattle.kv_recover.specs.Pass.{IsSlabEnd, HasFoundBelow}
@@ -61,9 +62,10 @@ pub record FindsAllBelow (image : Image) (worker workers class : ℕ) (entries :
       → image c page ≡ zero_page
 
 -- what a class has after opening: its end, and its list, which the stack stands for
-pub record HasClassList (image : Image) (worker workers floor class end : ℕ) (stack : Tail) : Type
-    0 where
+pub record HasClassList (image : Image) (worker workers : ℕ) (entries : Entries)
+    (floor class end : ℕ) (stack : Tail) : Type 0 where
   pub list : List ℕ
+  pub list_is : list ≡ free_slots entries (slot_at all_classes image) class end
   pub end_is : IsEndOf image class end
   pub free : IsFreeList (slot_at all_classes image) worker workers class end list
   pub links : HasLinks (slot_at all_classes image) class floor list
@@ -76,6 +78,7 @@ pub record IsOpenedStore (image : Image) (worker workers : ℕ) (entries : Entri
   pub floor_is : IsFloor (heads_at all_classes image) floor
   pub count : length stacks ≡ 12
   pub lists : (class : ℕ) (stack : Tail) → 1 ≤ class → slice_get stacks class ≡ Some stack
-      → HasClassList image worker workers floor class (slice_index ends class) stack
+      → HasClassList image worker workers entries floor class (slice_index ends class) stack
+  pub none : (stack : Tail) → slice_get stacks 0 ≡ Some stack → StandsFor stack []
   pub head : image 0 0 ≡ head_page worker workers
   pub bounded : AreBounded image

@@ -1,14 +1,11 @@
 -- What an index has on every disk: where its entries are, and how many there are of each class.
 use Rattle.std.specs.Prelude.{◌≡◌, ℕ, ◌+◌, ◌-◌, ◌^◌, ◌<◌, ◌≤◌, ◌==◌, List, length, slice_get, slice_index, Option, None, Some}
-use Rattle.std.specs.Prelude.{count_by, if◌then◌else◌}
+use Rattle.std.specs.Prelude.{if◌then◌else◌}
 use Rattle.std.specs.FinMap as finite
 use Rattle.kv_index.specs.declared.entry.Entry.{Entry}
 use Rattle.kv_free.specs.FreeList.{Tail}
 use Rattle.kv_index.specs.Entries.{Entries}
-
--- how many entries have a place of this class
-abbrev pub items_in : Entries → ℕ → ℕ
-items_in entries class = count_by (λ pair. pair.1.place.class == class) (finite.entries entries)
+use Rattle.kv_slab.specs.Memory.{items_in}
 
 -- one for an entry of the class
 abbrev pub one_of : Option Entry → ℕ → ℕ
@@ -45,6 +42,7 @@ pub record HasRooms (entries : Entries) (floor : ℕ) (ends : List ℕ) (stacks 
   pub spare : floor < 2 ^ 62 - 1
   pub placed : ArePlaced entries floor (λ class. slice_index ends class)
   pub small : (class : ℕ) → slice_index ends class ≤ 2 ^ 24
+  pub zero : slice_index ends 0 ≡ 0
   pub count : length stacks ≡ 12
   pub filled : (class : ℕ) (stack : Tail) → slice_get stacks class ≡ Some stack
       → slice_index ends class ≡ items_in entries class + stack.count

@@ -45,11 +45,7 @@ fn append(list: &mut KeptList, kept: Kept) -> Result<(), NoMemory>
 
 /// Takes the entry with the least key out of the index and appends it to the list. Whether there was
 /// one.
-fn take_least<I: Index>(
-    alloc: Global,
-    index: &mut I,
-    list: &mut KeptList,
-) -> Result<bool, NoMemory>
+fn take_least<I: Index>(alloc: Global, index: &mut I, list: &mut KeptList) -> Result<bool, NoMemory>
     ensures { IfOk result (λ more. MayTakeLeast more (I.entries index.old) (I.entries index.new)
         list.old.items list.new.items) }
 {

@@ -180,6 +180,7 @@ pub fn find_small<D: Disk, I: Index>(
         (λ class. slice_index found.ends class)) }
     ensures rest { IfOk result (λ found. (class : ℕ) → 8 ≤ class
         → slice_index found.ends class ≡ 0) }
+    ensures zero { IfOk result (λ found. slice_index found.ends 0 ≡ 0) }
     ensures counted { OnOk result (HasCounts (I.entries items.new.index) items.new.counts) }
     ensures cause { IfErr result (HasReadCause (IsTrue D.tells → (class : ℕ) × (1 ≤ class)
         × (class ≤ 7) × IsPast (D.seen disk.old) class) (D.faults disk.old) (D.faults disk.new)) }

@@ -3,7 +3,8 @@ ghost use Rattle.std.specs.Prelude.{false, length, min, IfSome, OnOk, IfOk, IsTr
 ghost use Rattle.kv_base.specs.Fault.{HasCause};
 ghost use Rattle.kv_base.specs.Image.{Image};
 ghost use Rattle.kv_base.specs.Crash.{LeavesOnly};
-ghost use Rattle.kv_free.specs.FreeList.{StandsFor, link_of};
+ghost use Rattle.kv_free.specs.FreeList.{Tail, StandsFor, link_of};
+ghost use Rattle.std.specs.Prelude.{Some, slice_get};
 ghost use Rattle.kv_model.specs.Layout.{all_classes, slots_in_page};
 ghost use Rattle.kv_model.specs.Reading.{Reading, page_of, offset_of};
 ghost use Rattle.kv_model.specs.SlotBytes.{tombstone_bytes};
@@ -39,13 +40,7 @@ pub fn is_entry<I: Index>(index: &I, slot: Slot<'_>, place: Place) -> bool
 }
 
 /// Frees the slot at the place in its page, unless it is an entry's.
-fn free_at<I: Index>(
-    index: &I,
-    page: &mut [u8; 4096],
-    place: Place,
-    floor: u64,
-    stack: &mut Stacks,
-)
+fn free_at<I: Index>(index: &I, page: &mut [u8; 4096], place: Place, floor: u64, stack: &mut Stacks)
     requires class { (1 ≤ place.class) × (place.class ≤ 7) }
     requires slot { place.slot < 2 ^ 24 }
     requires few { stack.old.count < 2 ^ 24 }
@@ -216,6 +211,8 @@ pub fn free_small<D: Disk, I: Index>(
 ) -> Result<(), Failed>
     requires ends { (class : ℕ) → slice_index ends.now class ≤ 2 ^ 24 }
     requires one { length stacks.old.items ≡ 1 }
+    requires empty { (stack : Tail) → slice_get stacks.old.items 0 ≡ Some stack
+        → StandsFor stack [] }
     requires room { 7 ≤ stacks.old.spare }
     ensures done { OnOk result ((first : Image)
         → HasFreedBelow ⟦<D as Disk>⟧ (I.entries index.now) first (λ c. slice_index ends.now c)

@@ -11,14 +11,13 @@ mod items;
 mod large;
 mod listing;
 mod open;
+mod opening;
 mod read;
 mod reading;
 mod see;
 mod share;
 
-pub use fault::OpenFault;
-pub use items::Items;
 pub use entries::{Kept, KeptList};
+pub use fault::OpenFault;
 pub use listing::kept;
-pub use open::{Parts, open_parts};
-pub use share::Share;
+pub use opening::{Opened, open_store};

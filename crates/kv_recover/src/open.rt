@@ -35,6 +35,7 @@ use std::alloc::Global;
 const LAST_STAMP: u64 = (1 << 62) - 1;
 
 /// What is found on a disk beside the index, and the free lists.
+#[derive(Drop)]
 pub struct Parts {
     /// The greatest number at the head of a page of a slot.
     pub floor: u64,
@@ -60,6 +61,7 @@ pub fn find_all<D: Disk, I: Index>(
     ensures ends { IfOk result (λ found. (class : ℕ) → slice_index found.ends class ≤ 2 ^ 24) }
     ensures placed { IfOk result (λ found. ArePlaced (I.entries items.new.index) found.floor
         (λ class. slice_index found.ends class)) }
+    ensures zero { IfOk result (λ found. slice_index found.ends 0 ≡ 0) }
     ensures counted { OnOk result (HasCounts (I.entries items.new.index) items.new.counts) }
     ensures cause { IfErr result (HasReadCause (IsTrue D.tells → (class : ℕ) × (1 ≤ class)
         × (class ≤ 11) × IsPast (D.seen disk.old) class) (D.faults disk.old) (D.faults disk.new)) }

@@ -1,5 +1,5 @@
 -- One class more.
-use Rattle.std.proofs.Common.{◌≡◌, ℕ, ◌+◌, ◌<◌, ◌≤◌, ◌^◌, [], ◌∷◌, get_or, length-set, refl, sym, ap, ◌∙◌, subst, arith}
+use Rattle.std.proofs.Common.{◌≡◌, ℕ, ◌+◌, ◌<◌, ◌≤◌, ◌^◌, [], ◌∷◌, get_or, get_or-set_other, length-set, refl, sym, ap, ◌∙◌, subst, arith}
 use Rattle.std.proofs.lemmas.List.{get_or_past, length-replicate, get_or-replicate}
 use Rattle.std.proofs.lemmas.Bool.{cases_lt}
 use Rattle.kv_recover.specs.Pass.{FindsBelow, FindsClass}
@@ -14,6 +14,7 @@ loop-class-init g c = record {
   reads = reads-none g.D.Disk c.args.disk.now;
   size = refl;
   ends = λ class. omega (arith, zero_at 12 class);
+  zero = zero_at 12 0;
   rest = λ class from. zero_at 12 class;
   placed = placed-none (g.I.Index.entries c.args.items.now.index) 0 _ c.requires.none;
   counted = c.requires.counted;
@@ -29,10 +30,16 @@ pub loop-class-preserved : goal.loop-class-preserved
 loop-class-preserved g c =
     let size = c.loop-class.invariant.size in record {
       reads = reads-then g.D.Disk _ _ _ c.loop-class.invariant.reads c.find_class.ensures.reads;
-      size = omega (arith, length-set {A = ℕ} c.loop-class.ends c.loop-class.class
-          c.in_ok-seen.seen.end, size);
+      size = omega (
+        arith,
+        length-set {A = ℕ} c.loop-class.ends c.loop-class.class
+            c.in_ok-seen.seen.end,
+        size,
+      );
       ends = ends-next c.loop-class.ends c.loop-class.class c.in_ok-seen.seen.end
           (omega (arith, size)) c.in_ok-seen.ensures.end c.loop-class.invariant.ends;
+      zero = get_or-set_other c.loop-class.ends c.loop-class.class 0 c.in_ok-seen.seen.end 0
+          (λ same. omega arith) ∙ c.loop-class.invariant.zero;
       rest = ends-rest c.loop-class.class c.in_ok-seen.seen.end c.loop-class.ends
           c.loop-class.invariant.rest;
       placed = placed-end (g.I.Index.entries c.find_class.new.items.index) c.in_ok-seen.seen.floor

@@ -20,7 +20,7 @@ loop-class-init g c = record {
   done = λ first below. record {
     freed = below;
     stacks_are = λ tells. stacks-start (g.I.Index.entries c.args.index.now) first
-        (λ x. get_or c.args.ends.now x 0) c.args.stacks.now.items c.requires.one;
+        (λ x. get_or c.args.ends.now x 0) c.args.stacks.now.items c.requires.one c.requires.empty;
   };
   any_moment = λ first below. started _ _ _ (λ image left. may-later
       (g.I.Index.entries c.args.index.now) first (λ x. get_or c.args.ends.now x 0) c.args.floor 1 0
@@ -46,8 +46,13 @@ loop-class-preserved g c =
     record {
       room = omega (arith, c.requires.room);
       count = let before = c.loop-class.invariant.count in
-          omega (arith, ap length items, length-append c.loop-class.stacks.items
-          (c.in_ok-stack.stack ∷ []), before);
+          omega (
+            arith,
+            ap length items,
+            length-append c.loop-class.stacks.items
+                (c.in_ok-stack.stack ∷ []),
+            before,
+          );
       later = let before = c.loop-class.invariant.later in
           omega (arith, before, c.free_next.ensures.cause.later);
       done = λ first below.

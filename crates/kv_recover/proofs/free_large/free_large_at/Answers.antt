@@ -83,4 +83,3 @@ returns-clause-done g c = on_ok c.write.result _ _ _ c.write.ensures.written
     c.spot-first.ensures.page c.write.ensures.crash)
     (λ tells. written tells ∙ ap (λ n. with_page (g.D.Disk.seen c.read_page.new.disk)
     c.args.place.class n c.freed_page-freed.result) c.spot-first.ensures.page))
-

@@ -44,5 +44,9 @@ pub returns-clause-count : goal.returns-clause-count
 returns-clause-count g c =
     let ok = c.append.ensures.room c.requires.room in
     let items = of_ok c.append.result _ ok c.append.ensures.ok in
-    omega (arith, ap length items, length-append c.args.stacks.now.items
-    (c.free_large_class.new.stack ∷ []))
+    omega (
+      arith,
+      ap length items,
+      length-append c.args.stacks.now.items
+          (c.free_large_class.new.stack ∷ []),
+    )

@@ -1,7 +1,8 @@
 -- The counts follow the entries.
 use Rattle.std.proofs.Common.{◌≡◌, ℕ, ◌+◌, ◌<◌, ◌≤◌, get_or, refl, sym, ap, ◌∙◌, subst, arith}
 use Rattle.std.specs.FinMap as finite
-use Rattle.kv_recover.specs.Placed.{one_of, items_in}
+use Rattle.kv_slab.specs.Memory.{items_in}
+use Rattle.kv_recover.specs.Placed.{one_of}
 use Rattle.kv_recover.proofs.CountLemmas.{counted-some, counted-next, items_in-len}
 use Rattle.kv_recover.proofs.items.take_item.Goals as goal
 
@@ -14,10 +15,18 @@ pub add_one-requires-clause-room : goal.add_one-requires-clause-room
 add_one-requires-clause-room g c =
     let few : items_in (g.I.Index.entries c.args.items.now.index) c.args.entry.place.class
     ≤ c.len.result = subst (λ m. items_in m c.args.entry.place.class ≤ c.len.result)
-    c.reserve.ensures.kept (omega (arith, items_in-len (g.I.Index.entries c.reserve.new.self)
-    c.args.entry.place.class, c.len.ensures.value)) in
-    omega (arith, c.drop_one.ensures.value c.args.entry.place.class c.requires.class,
-    c.requires.counted.count c.args.entry.place.class c.requires.class, few)
+    c.reserve.ensures.kept (omega (
+      arith,
+      items_in-len (g.I.Index.entries c.reserve.new.self)
+          c.args.entry.place.class,
+      c.len.ensures.value,
+    )) in
+    omega (
+      arith,
+      c.drop_one.ensures.value c.args.entry.place.class c.requires.class,
+      c.requires.counted.count c.args.entry.place.class c.requires.class,
+      few,
+    )
 
 pub returns-clause-counted : goal.returns-clause-counted
 returns-clause-counted g c =

@@ -1,5 +1,5 @@
 -- One class more.
-use Rattle.std.proofs.Common.{◌≡◌, ℕ, ◌+◌, ◌<◌, ◌≤◌, ◌^◌, get_or, length-set, refl, sym, ap, ◌∙◌, subst, arith}
+use Rattle.std.proofs.Common.{◌≡◌, ℕ, ◌+◌, ◌<◌, ◌≤◌, ◌^◌, get_or, get_or-set_other, length-set, refl, sym, ap, ◌∙◌, subst, arith}
 use Rattle.kv_recover.specs.Opened.{FindsAllBelow}
 use Rattle.kv_recover.specs.Large.{FindsLargeClass}
 use Rattle.kv_recover.proofs.PlacedLemmas.{placed-begin, placed-end, ends-rest}
@@ -17,10 +17,16 @@ loop-class-preserved g c =
     let size = c.loop-class.invariant.size in record {
       reads = reads-then g.D.Disk _ _ _ c.loop-class.invariant.reads
           c.find_large_class.ensures.reads;
-      size = omega (arith, length-set {A = ℕ} c.loop-class.ends c.loop-class.class
-          c.in_ok-seen.seen.end, size);
+      size = omega (
+        arith,
+        length-set {A = ℕ} c.loop-class.ends c.loop-class.class
+            c.in_ok-seen.seen.end,
+        size,
+      );
       ends = ends-next c.loop-class.ends c.loop-class.class c.in_ok-seen.seen.end
           (omega (arith, size)) c.in_ok-seen.ensures.end c.loop-class.invariant.ends;
+      zero = get_or-set_other c.loop-class.ends c.loop-class.class 0 c.in_ok-seen.seen.end 0
+          (λ same. omega arith) ∙ c.loop-class.invariant.zero;
       rest = ends-rest c.loop-class.class c.in_ok-seen.seen.end c.loop-class.ends
           c.loop-class.invariant.rest;
       placed = placed-end (g.I.Index.entries c.find_large_class.new.items.index) c.in_ok-seen.seen.floor

@@ -10,6 +10,7 @@ invariant-loop-class g l = record {
   reads : OnlyReads g.D.Disk l.fn.disk l.disk;
   size : length l.ends ≡ 12;
   ends : (class : ℕ) → get_or l.ends class 0 ≤ 2 ^ 24;
+  zero : get_or l.ends 0 0 ≡ 0;
   rest : (class : ℕ) → l.class ≤ class → get_or l.ends class 0 ≡ 0;
   placed : ArePlaced (g.I.Index.entries l.items.index) l.floor (λ c. get_or l.ends c 0);
   counted : HasCounts (g.I.Index.entries l.items.index) l.items.counts;

@@ -1,8 +1,25 @@
 -- The small classes are freed, then the large ones, and then all is synced.
-use Rattle.std.proofs.Common.{◌≡◌, ℕ, get_or, refl, sym, ap, ◌∙◌, subst, IsTrue}
+use Rattle.std.proofs.Common.{[], ◌∷◌, ◌++◌, Some, slice_get, Result, Ok, Err, OnOk, IsOk, arith, ◌≡◌, ℕ, get_or, refl, sym, ap, ◌∙◌, subst, IsTrue}
+use Rattle.kv_free.specs.FreeList.{StandsFor}
 use Rattle.kv_base.proofs.CrashLemmas.{started, stays, joins, weaker}
 use Rattle.kv_recover.proofs.OpenSteps.{large-start, small-all, none-all, freed-synced}
 use Rattle.kv_recover.proofs.open.free_all.Goals as goal
+
+-- of an Ok call
+of_ok : {T E : Type 0} (result : Result T E) (P : Type 0) → IsOk result → OnOk result P → P
+of_ok (Ok x) P is p = p
+of_ok (Err e) P is p = absurd (cc)
+
+pub free_small-requires-clause-empty : goal.free_small-requires-clause-empty
+free_small-requires-clause-empty g c = λ stack is.
+    let room = c.in_ok-stacks.ensures.room in
+    let ok = c.append.ensures.room (omega arith) in
+    let items = of_ok c.append.result _ ok c.append.ensures.ok in
+    let all : c.append.new.self.items ≡ c.new.result ∷ [] =
+    items ∙ ap (λ xs. xs ++ c.new.result ∷ []) c.in_ok-stacks.ensures.empty in
+    let at : Some c.new.result ≡ Some stack = sym (ap (λ xs. slice_get xs 0) all) ∙ is in
+    let same : c.new.result ≡ stack = cc in
+    subst (λ t. StandsFor t []) same c.new.ensures
 
 pub returns-in_err-stacks-clause-any_moment : goal.returns-in_err-stacks-clause-any_moment
 returns-in_err-stacks-clause-any_moment g c = λ first below stand.

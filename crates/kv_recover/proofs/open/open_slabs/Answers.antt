@@ -19,15 +19,19 @@ returns-then-floor-ge-LAST_STAMP-clause-any_moment g c =
 
 pub returns-then-floor-ge-LAST_STAMP-clause-cause :
     goal.returns-then-floor-ge-LAST_STAMP-clause-cause
-returns-then-floor-ge-LAST_STAMP-clause-cause g c =
-    (omega arith, λ tells. (floor-found g.D.Disk g.met.D.Disk.told c.args.share.worker c.args.share.workers c.args.disk.now
-    c.find_all.new.disk c.requires.settled c.find_all.ensures.reads
-    (g.I.Index.entries c.find_all.new.items.index)
-    c.in_ok-found.found.floor c.in_ok-found.found.ends c.in_ok-found.ensures.found tells,
+returns-then-floor-ge-LAST_STAMP-clause-cause g c = (
+  omega arith,
+  λ tells. (
+    floor-found g.D.Disk g.met.D.Disk.told c.args.share.worker c.args.share.workers c.args.disk.now
+        c.find_all.new.disk c.requires.settled c.find_all.ensures.reads
+        (g.I.Index.entries c.find_all.new.items.index)
+        c.in_ok-found.found.floor c.in_ok-found.found.ends c.in_ok-found.ensures.found tells,
     bounded-found g.D.Disk g.met.D.Disk.told c.args.share.worker c.args.share.workers c.args.disk.now
-    c.find_all.new.disk c.requires.settled c.find_all.ensures.reads
-    (g.I.Index.entries c.find_all.new.items.index)
-    c.in_ok-found.found.floor c.in_ok-found.found.ends c.in_ok-found.ensures.found tells))
+        c.find_all.new.disk c.requires.settled c.find_all.ensures.reads
+        (g.I.Index.entries c.find_all.new.items.index)
+        c.in_ok-found.found.floor c.in_ok-found.found.ends c.in_ok-found.ensures.found tells,
+  ),
+)
 
 pub returns-in_err-stacks-clause-any_moment :
     goal.returns-in_err-stacks-clause-any_moment
@@ -120,6 +124,7 @@ returns-clause-rooms g c = record {
   spare = let below = c.if-floor-ge-LAST_STAMP.false in omega arith;
   placed = c.in_ok-found.ensures.placed;
   small = c.in_ok-found.ensures.ends;
+  zero = c.in_ok-found.ensures.zero;
   count = c.in_ok-stacks.ensures.count;
   filled = λ class stack is.
       let within = get-within c.in_ok-stacks.stacks.items stack class is in

@@ -16,8 +16,10 @@ mod read;
 mod reading;
 mod see;
 mod share;
+mod value;
 
 pub use entries::{Kept, KeptList};
 pub use fault::OpenFault;
 pub use listing::kept;
 pub use opening::{Opened, open_store};
+pub use value::read_value;

@@ -14,3 +14,4 @@ pub mod Reading
 pub mod Recovery
 pub mod Oracle
 pub mod Examples
+pub mod Survey

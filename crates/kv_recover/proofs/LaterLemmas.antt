@@ -1,8 +1,8 @@
 -- What the later pages of a slot say, page by page.
-use Rattle.std.proofs.Common.{◌≡◌, ◌⊎◌, inl, inr, ℕ, suc, ◌+◌, ◌≤◌, Bool, true, false, cond, eqb, List, [], ◌∷◌, ◌++◌}
+use Rattle.std.proofs.Common.{◌≡◌, ◌⊎◌, inl, inr, ℕ, suc, ◌+◌, ◌-◌, ◌≤◌, Bool, true, false, cond, eqb, List, [], ◌∷◌, ◌++◌}
 use Rattle.std.proofs.Common.{map, max, length, drop, refl, sym, ap, ◌∙◌, subst, subst₂, arith, IsTrue}
 use Rattle.std.specs.Prelude.{◌&&◌}
-use Rattle.std.specs.List.{AllByRecursion, list_all}
+use Rattle.std.specs.List.{AllByRecursion, list_all, range_with_len}
 use Rattle.std.proofs.lemmas.Bool.{cases_lt}
 use Rattle.kv_base.specs.Image.{Image, zero_page}
 use Rattle.kv_index.specs.Entries.{Entries}
@@ -136,3 +136,24 @@ found-by-front image class slot low high worker workers entries later floor end 
     ∙ ap (with_slot entries worker workers class slot) (sym (large-front class page pages size)))
     (greatest-with floor (stamp_field page) greatest (map stamp_field pages) says.greatest_is)
     found
+
+-- what the later pages say, by the definitions' numbers
+pub later_is : (image read : Image) (class at first in_slot count stamp head start floor : ℕ)
+    (whole blank : Bool) (greatest : ℕ) → read ≡ image → at ≡ first → count ≡ in_slot
+    → stamp ≡ head → start ≡ floor
+    → IsLater (map (λ page. read class page) (range_with_len (at + 1) (count - 1))) stamp start whole
+    blank greatest
+    → IsLater (map (image class) (range_with_len (first + 1) (in_slot - 1))) head floor whole blank
+    greatest
+later_is image read class at first in_slot count stamp head start floor whole blank greatest same
+    at_is count_is stamp_is start_is says =
+    subst (λ x. IsLater (map (image class) (range_with_len (first + 1) (in_slot - 1))) head x whole
+    blank greatest) start_is
+    (subst (λ x. IsLater (map (image class) (range_with_len (first + 1) (in_slot - 1))) x start whole
+    blank greatest) stamp_is
+    (subst (λ n. IsLater (map (image class) (range_with_len (first + 1) (n - 1))) stamp start whole
+    blank greatest) count_is
+    (subst (λ n. IsLater (map (image class) (range_with_len (n + 1) (count - 1))) stamp start whole
+    blank greatest) at_is
+    (subst (λ i. IsLater (map (i class) (range_with_len (at + 1) (count - 1))) stamp start whole
+    blank greatest) same says))))

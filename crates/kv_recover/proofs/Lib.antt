@@ -24,3 +24,4 @@ pub mod PrepareSteps
 pub mod PartsSteps
 pub mod ReadingLemmas
 pub mod JoinLemmas
+pub mod SurveyLemmas

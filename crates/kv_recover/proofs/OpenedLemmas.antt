@@ -130,7 +130,7 @@ map_rest (x ∷ xs) = refl
 module _ (first : Image) (worker workers floor : ℕ) (entries : Entries)
     (holds : HoldsKept entries (reading_of first) worker workers) where
   -- an entry's slot has a kept item
-  entry-kept : (c s : ℕ) → is_entry entries c s (reading_of first c s) ≡ true
+  pub entry-kept : (c s : ℕ) → is_entry entries c s (reading_of first c s) ≡ true
       → HasKept (reading_of first) worker workers c s
   entry-kept c s is =
       let item = item_of entries c s (reading_of first c s) is in
@@ -144,7 +144,7 @@ module _ (first : Image) (worker workers floor : ℕ) (entries : Entries)
       }
 
   -- a kept item is its key's entry
-  kept-entry : (c s : ℕ) → HasKept (reading_of first) worker workers c s
+  pub kept-entry : (c s : ℕ) → HasKept (reading_of first) worker workers c s
       → is_entry entries c s (reading_of first c s) ≡ true
   kept-entry c s has =
       let stands : reading_of first c s ≡ Item has.copy.stamp has.key has.copy.value =

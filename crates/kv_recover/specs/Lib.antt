@@ -12,3 +12,4 @@ pub mod HeadCheck
 pub mod Causes
 pub mod Listed
 pub mod Store
+pub mod Kinds

@@ -43,13 +43,13 @@ pub fn pages_in_slot(class: u8) -> u32
 
 /// What the later pages of a slot say, beside its first one.
 #[derive(Clone, Copy)]
-struct Later {
+pub struct Later {
     /// Whether all of them have the first one's stamp.
-    whole: bool,
+    pub whole: bool,
     /// Whether all of them are zero.
-    blank: bool,
+    pub blank: bool,
     /// The greatest of a number and those at their heads.
-    floor: u64,
+    pub floor: u64,
 }
 
 /// Whether all pages so far are zero, and this one too.
@@ -76,7 +76,7 @@ fn with_later(later: Later, page: &[u8; 4096], stamp: u64) -> Later
 }
 
 /// Reads the later pages of a slot.
-fn read_later<D: Disk>(
+pub fn read_later<D: Disk>(
     disk: &mut D,
     class: u8,
     first: u32,

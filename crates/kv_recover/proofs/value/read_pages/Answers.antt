@@ -24,8 +24,12 @@ loop-number-preserved g c =
     record {
       reads = reads-then g.D.Disk _ _ _ c.loop-number.invariant.reads c.read_page.ensures.reads;
       room = omega arith;
-      size = omega (arith, ap length items, size,
-          length-append c.loop-number.pages.items (c.read_page.new.content ∷ []));
+      size = omega (
+        arith,
+        ap length items,
+        size,
+        length-append c.loop-number.pages.items (c.read_page.new.content ∷ []),
+      );
       pages = λ tells. items
           ∙ ap (λ xs. xs ++ c.read_page.new.content ∷ []) (c.loop-number.invariant.pages tells)
           ∙ ap (λ x. map (λ page. g.D.Disk.seen c.args.disk.now c.args.class page)

@@ -1,10 +1,9 @@
 -- Causes of refusals, handed on.
-use Rattle.std.proofs.Common.{◌≡◌, ◌⊎◌, inl, inr, ℕ, ◌≤◌, sym, ap, ◌∙◌, subst, arith}
+use Rattle.std.proofs.Common.{◌≡◌, inl, inr, ℕ, ◌≤◌, subst, arith}
 use Rattle.std.proofs.Common.{Result, Ok, Err, IfErr}
 use Rattle.std.specs.Result.{IsErrAnd}
 use Rattle.kv_base.specs.Fault.{Rose}
 use Rattle.kv_base.specs.Image.{Image, zero_page}
-use Rattle.kv_model.specs.Head.{IsHead, head_page}
 use Rattle.kv_slot.proofs.HeadLemmas.{zeros_no_head}
 use Rattle.kv_recover.specs.declared.fault.OpenFault.{OpenFault}
 use Rattle.kv_recover.specs.declared.fault.OpenFault.TheVariants.{NotAStore, OtherStore, StampsSpent}

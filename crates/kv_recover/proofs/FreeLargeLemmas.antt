@@ -1,5 +1,5 @@
 -- One slot of the classes 8 to 11 more is freed.
-use Rattle.std.proofs.Common.{◌≡◌, ◌⊎◌, inl, inr, ℕ, zero, suc, ◌+◌, ◌-◌, ◌*◌, ◌<◌, ◌≤◌, ◌^◌, List, [], ◌∷◌}
+use Rattle.std.proofs.Common.{◌≡◌, inl, inr, ℕ, zero, suc, ◌+◌, ◌-◌, ◌*◌, ◌<◌, ◌≤◌, ◌^◌, List, ◌∷◌}
 use Rattle.std.proofs.Common.{map, drop, Option, IfSome, refl, sym, ap, ◌∙◌, subst, subst₂, arith}
 use Rattle.std.specs.List.{range_with_len}
 use Rattle.std.proofs.lemmas.Bool.{cases_lt, cases_eq, cond-false, lt-leb}
@@ -14,7 +14,7 @@ use Rattle.kv_model.specs.SlotBytes.{tombstone_bytes}
 use Rattle.kv_model.specs.Reading.{page_of, large_slot, small_slot}
 use Rattle.kv_recover.specs.SoFar.{IsBefore}
 use Rattle.kv_recover.specs.Pass.{bytes_in}
-use Rattle.kv_recover.specs.Free.{free_slots, IsFree, IsFreedSlot, SlotMayBeFreed, reading_of}
+use Rattle.kv_recover.specs.Free.{free_slots, IsFree, IsFreedSlot, reading_of}
 use Rattle.kv_recover.specs.FreeLarge.{IsFreedLarge, LargeMayBeFreed, AnyMayBeFreed, AreFreed}
 use Rattle.kv_recover.proofs.FreeLemmas.{Puts}
 

@@ -1,5 +1,5 @@
 -- A slot of the classes 8 to 11 is read, and its first page written where it is free, on a disk.
-use Rattle.std.proofs.Common.{◌≡◌, ◌⊎◌, inl, inr, ℕ, ◌+◌, ◌-◌, ◌<◌, ◌≤◌, ◌^◌, true, false, List, [], ◌∷◌, ◌++◌}
+use Rattle.std.proofs.Common.{◌≡◌, inl, inr, ℕ, ◌+◌, ◌-◌, ◌<◌, ◌≤◌, ◌^◌, true, false, List, [], ◌∷◌, ◌++◌}
 use Rattle.std.specs.List.{range_with_len}
 use Rattle.std.proofs.Common.{map, drop, length, IfSome, Result, refl, sym, ap, ◌∙◌, subst, arith, IsTrue}
 use Rattle.std.proofs.lemmas.Bool.{false≢true}
@@ -12,7 +12,7 @@ use Rattle.kv_index.specs.Entries.{Entries}
 use Rattle.kv_model.specs.Layout.{all_classes, pages_in_slot}
 use Rattle.kv_model.specs.SlotBytes.{tombstone_bytes}
 use Rattle.kv_model.specs.Slots.{read_large}
-use Rattle.kv_model.specs.Reading.{page_of, large_slot}
+use Rattle.kv_model.specs.Reading.{page_of}
 use Rattle.kv_disk.specs.Steps.{OnlyReads}
 use Rattle.kv_recover.specs.Free.{is_entry, free_slots, IsFree, reading_of}
 use Rattle.kv_recover.specs.FreeLarge.{AnyMayBeFreed, AreFreed, HasFreedAny, FreesAnyBelow}

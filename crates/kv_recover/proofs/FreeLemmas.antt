@@ -1,25 +1,20 @@
 -- One page more of an image is freed.
 use Rattle.std.proofs.Common.{◌≡◌, ◌⊎◌, inl, inr, ℕ, zero, suc, ◌+◌, ◌-◌, ◌*◌, ◌/◌, ◌^◌, ◌<◌, ◌≤◌}
-use Rattle.std.proofs.Common.{true, false, List, Result}
-use Rattle.std.proofs.Common.{refl, sym, ap, ◌∙◌, subst, arith, IsTrue}
+use Rattle.std.proofs.Common.{List}
+use Rattle.std.proofs.Common.{refl, sym, ap, ◌∙◌, subst, arith}
 use Rattle.std.proofs.lemmas.Bool.{cases_lt, cases_eq, cases_Bool, cond-true, le-leb}
 use Rattle.std.proofs.Math.Nat.{div-add-mod, mul-le-mul_right}
 use Rattle.kv_base.specs.Image.{Image, with_page}
-use Rattle.kv_disk.specs.declared.disk.Disk.{Ghosts}
-use Rattle.kv_base.specs.Crash.{MayLeave, Adds, Advances, LeavesOnly}
-use Rattle.kv_base.proofs.CrashLemmas.{writes, weaker}
 use Rattle.kv_base.proofs.ImageLemmas.{with_page-here, with_page-other}
-use Rattle.kv_free.specs.FreeList.{Tail, StandsFor}
 use Rattle.kv_index.specs.Entries.{Entries}
 use Rattle.kv_model.specs.Layout.{all_classes, is_small, slots_in_page}
 use Rattle.kv_model.specs.Recovery.{most_pages}
 use Rattle.kv_model.specs.Slots.{read_small}
-use Rattle.kv_model.specs.Reading.{Reading, page_of, small_slot, slot_at}
+use Rattle.kv_model.specs.Reading.{Reading, page_of, small_slot}
 use Rattle.kv_recover.specs.SoFar.{IsBefore}
 use Rattle.kv_recover.specs.Pass.{bytes_in}
-use Rattle.kv_disk.specs.Steps.{OnlyReads}
-use Rattle.kv_recover.specs.Free.{is_entry, free_slots, IsFree, IsFreedSlot, FreesPage, reading_of}
-use Rattle.kv_recover.specs.Free.{SlotMayBeFreed, MayBeFreed, IsFreed, HasFreed}
+use Rattle.kv_recover.specs.Free.{is_entry, IsFree, IsFreedSlot, FreesPage, reading_of}
+use Rattle.kv_recover.specs.Free.{SlotMayBeFreed, MayBeFreed, IsFreed}
 use Rattle.kv_recover.proofs.PassLemmas.{slot_at-small, page_of-within}
 
 -- the image now has this content on the page, and all other pages as before

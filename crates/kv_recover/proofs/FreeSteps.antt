@@ -1,5 +1,5 @@
 -- A page is read, and written with its free slots freed, on a disk.
-use Rattle.std.proofs.Common.{◌≡◌, ◌⊎◌, inl, inr, ℕ, zero, suc, ◌+◌, ◌-◌, ◌*◌, ◌<◌, ◌≤◌, List, [], ◌∷◌}
+use Rattle.std.proofs.Common.{◌≡◌, ◌⊎◌, inl, inr, ℕ, zero, suc, ◌+◌, ◌*◌, ◌<◌, ◌≤◌, List, [], ◌∷◌}
 use Rattle.std.proofs.Common.{◌++◌, Result, Ok, Err, OnOk, Some, length, slice_get, length-append}
 use Rattle.std.proofs.lemmas.Bool.{cases_eq}
 use Rattle.kv_recover.specs.SoFar.{IsBefore}
@@ -17,7 +17,7 @@ use Rattle.kv_model.specs.Reading.{Reading, page_of}
 use Rattle.kv_recover.specs.Pass.{bytes_in}
 use Rattle.kv_disk.specs.Steps.{OnlyReads}
 use Rattle.kv_recover.specs.Free.{free_slots, FreesPage, reading_of, MayBeFreed, IsFreed, HasFreed}
-use Rattle.kv_recover.specs.Free.{IsFree, HasFreedBelow, HasStacks, FreesBelow}
+use Rattle.kv_recover.specs.Free.{IsFree, HasFreedBelow, HasStacks}
 use Rattle.kv_recover.proofs.FilteredLemmas.{get-within}
 use Rattle.kv_recover.proofs.FreeLemmas.{Puts, page_reads, may-write, freed-write, puts-same, puts-with, may-up, may-later}
 

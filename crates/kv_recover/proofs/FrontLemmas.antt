@@ -1,7 +1,7 @@
 -- What the first page of a large slot says, and what the slot reads as.
-use Rattle.std.proofs.Common.{◌≡◌, ◌⊎◌, inl, inr, ℕ, ◌≤◌, Bool, true, false, cond, leb, eqb, List, ◌∷◌}
-use Rattle.std.proofs.Common.{◌++◌, length, take, drop, Option, None, Some, refl, sym, ap, ◌∙◌, arith}
-use Rattle.std.specs.List.{find, flat_map, list_all}
+use Rattle.std.proofs.Common.{◌≡◌, inl, inr, ℕ, ◌≤◌, Bool, true, false, cond, leb, eqb, List, ◌∷◌}
+use Rattle.std.proofs.Common.{◌++◌, length, take, drop, Option, None, refl, sym, ap, ◌∙◌, arith}
+use Rattle.std.specs.List.{flat_map, list_all}
 use Rattle.std.specs.FinMap as finite
 use Rattle.std.proofs.lemmas.Bool.{cases_Bool, cond-false, false≢true, leb-true, and_parts}
 use Rattle.std.proofs.lemmas.List.{take-append-le}

@@ -1,7 +1,7 @@
 -- What is opened holds the store that kv_slab keeps.
-use Rattle.std.proofs.Common.{◌≡◌, ◌⊎◌, inl, inr, ℕ, zero, suc, ◌+◌, ◌-◌, ◌*◌, ◌<◌, ◌≤◌, ◌^◌, Bool, true, false}
-use Rattle.std.proofs.Common.{not, cond, eqb, List, [], ◌∷◌, length, map, get_or, slice_get, Option, None, Some}
-use Rattle.std.proofs.Common.{refl, sym, ap, ◌∙◌, subst, subst₂, arith, IsTrue}
+use Rattle.std.proofs.Common.{◌≡◌, ◌⊎◌, inl, inr, ℕ, zero, suc, ◌+◌, ◌<◌, ◌≤◌, Bool, true, false}
+use Rattle.std.proofs.Common.{not, eqb, List, [], ◌∷◌, length, map, get_or, slice_get, Some}
+use Rattle.std.proofs.Common.{refl, sym, ap, ◌∙◌, subst, arith, IsTrue}
 use Rattle.std.specs.List.{range_with_len}
 use Rattle.std.specs.FinMap as finite
 use Rattle.std.proofs.lemmas.Bool.{cases_lt, cases_Bool, false≢true, not_from_false, not-true}
@@ -13,17 +13,16 @@ use Rattle.kv_index.specs.declared.entry.Entry.{Entry}
 use Rattle.kv_index.specs.Entries.{Entries}
 use Rattle.kv_model.specs.Layout.{all_classes, pages_in_slot}
 use Rattle.kv_model.specs.Reading.{slot_at, small_slot, large_slot, page_of}
-use Rattle.kv_model.specs.Slots.{Slot, Never, Item, Tombstone}
+use Rattle.kv_model.specs.Slots.{Item, Tombstone}
 use Rattle.std.proofs.lemmas.List.{get_or_past}
-use Rattle.kv_slab.specs.Rooms.{Free, Rooms, AreRooms, IsListed, IsEntrys, link_at}
+use Rattle.kv_slab.specs.Rooms.{Rooms, AreRooms, IsEntrys, link_at}
 use Rattle.kv_slab.specs.Rooms.{ArePlaced as SlotsArePlaced}
 use Rattle.kv_slab.specs.Memory.{rooms_of, AreCounted}
 use Rattle.kv_slab.specs.View.{IsOpen, Stands}
 use Rattle.kv_slab.specs.declared.room.Room.{Room}
-use Rattle.kv_recover.specs.Found.{HoldsKept}
 use Rattle.kv_recover.specs.Free.{is_place, is_entry, free_slots}
 use Rattle.kv_recover.specs.Large.{AreZeroPages}
-use Rattle.kv_recover.specs.Opened.{IsOpenedStore, HasClassList, IsEndOf}
+use Rattle.kv_recover.specs.Opened.{IsOpenedStore, HasClassList}
 use Rattle.kv_recover.specs.Placed.{HasRooms}
 use Rattle.kv_recover.proofs.EntryLemmas.{item_of}
 use Rattle.kv_recover.proofs.FilteredLemmas.{nth, all, rises, get-within}

@@ -1,19 +1,19 @@
 -- The entries of an index, taken out by rising key.
-use Rattle.std.proofs.Common.{◌≡◌, ◌⊎◌, inl, inr, ℕ, zero, suc, ◌+◌, ◌-◌, ◌<◌, ◌≤◌, Bool, true, false, cond}
-use Rattle.std.proofs.Common.{List, [], ◌∷◌, ◌++◌, length, slice_get, Option, None, Some, is_some, Ordering}
-use Rattle.std.proofs.Common.{Less, Equal, Greater, refl, sym, ap, ◌∙◌, subst, arith, IsTrue}
+use Rattle.std.proofs.Common.{◌≡◌, ◌⊎◌, inl, inr, ℕ, ◌+◌, ◌-◌, ◌<◌, ◌≤◌, Bool, true, false, cond}
+use Rattle.std.proofs.Common.{List, [], ◌∷◌, length, slice_get, Option, None, Some, Ordering}
+use Rattle.std.proofs.Common.{Less, Equal, Greater, refl, sym, ap, ◌∙◌, subst, arith}
 use Rattle.std.specs.Prelude.{IsSome}
 use Rattle.std.specs.FinMap as finite
 use Rattle.std.specs.FinMap.Entries.{find}
 use Rattle.std.specs.Ordering.{nat_cmp, is_le}
 use Rattle.std.specs.Cmp.Lexicographic.{slice_cmp}
-use Rattle.std.proofs.lemmas.Bool.{false≢true, cases_lt}
+use Rattle.std.proofs.lemmas.Bool.{false≢true}
 use Rattle.kv_index.specs.declared.entry.Entry.{Entry}
-use Rattle.kv_index.specs.Entries.{Entries, HasNoneFrom, IsNext, IsUpTo}
+use Rattle.kv_index.specs.Entries.{Entries, HasNoneFrom, IsUpTo}
 use Rattle.kv_index.proofs.EntriesLemmas.{one_key}
 use Rattle.kv_index.proofs.LookupLemmas.{get_removed, get_removed_other, len_removed, same_or_other}
 use Rattle.kv_recover.specs.declared.entries.Kept.{Kept}
-use Rattle.kv_recover.specs.Listed.{IsBelow, entry_of, TakesLeast, MayTakeLeast, KeysRise, Lists}
+use Rattle.kv_recover.specs.Listed.{IsBelow, entry_of, TakesLeast, MayTakeLeast}
 use Rattle.kv_recover.specs.Listed.{IsListing, AreListed}
 use Rattle.kv_recover.proofs.FilteredLemmas.{get-push, get-left, get-last, get-within}
 

@@ -1,10 +1,10 @@
 -- The steps of opening the slabs of a disk, in the images that a crash may leave.
-use Rattle.std.proofs.Common.{◌≡◌, ◌⊎◌, inl, inr, ℕ, ◌+◌, ◌-◌, ◌<◌, ◌≤◌, ◌^◌, List, length, get_or, set, slice_get}
-use Rattle.std.proofs.Common.{Some, refl, sym, ap, ◌∙◌, subst, arith, IsTrue, get_or-set_same, get_or-set_other}
+use Rattle.std.proofs.Common.{◌≡◌, inl, inr, ℕ, ◌+◌, ◌<◌, ◌≤◌, ◌^◌, List, length, get_or, set}
+use Rattle.std.proofs.Common.{refl, sym, ◌∙◌, subst, arith, IsTrue, get_or-set_same, get_or-set_other}
 use Rattle.std.proofs.lemmas.Bool.{cases_eq}
 use Rattle.kv_base.specs.Image.{Image}
 use Rattle.kv_disk.specs.declared.disk.Disk.{Ghosts}
-use Rattle.kv_base.specs.Crash.{Choices, MayLeave, Only, NoMore, Advances, LeavesOnly}
+use Rattle.kv_base.specs.Crash.{Choices, Only, NoMore, LeavesOnly}
 use Rattle.kv_base.proofs.CrashLemmas.{started, joins, left-before}
 use Rattle.kv_base.proofs.ImageLemmas.{only_image}
 use Rattle.kv_free.specs.FreeList.{Tail}

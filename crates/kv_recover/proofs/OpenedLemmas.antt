@@ -1,32 +1,28 @@
 -- What is found and freed over all classes is an opened store, with the same items and floor.
-use Rattle.std.proofs.Common.{◌≡◌, ◌⊎◌, inl, inr, ℕ, zero, suc, ◌+◌, ◌-◌, ◌<◌, ◌≤◌, ◌^◌, Bool, true, false}
-use Rattle.std.proofs.Common.{not, cond, eqb, List, [], ◌∷◌, length, map, drop, get_or, slice_get, Some, None}
+use Rattle.std.proofs.Common.{◌≡◌, ◌⊎◌, inl, inr, ℕ, ◌<◌, ◌≤◌, ◌^◌, Bool, true, false}
+use Rattle.std.proofs.Common.{not, eqb, List, [], ◌∷◌, length, map, drop, get_or, slice_get, Some}
 use Rattle.std.proofs.Common.{refl, sym, ap, ◌∙◌, subst, subst₂, arith}
-use Rattle.std.specs.Prelude.{◌&&◌, ◌||◌}
 use Rattle.std.specs.List.{AllByRecursion, list_any}
 use Rattle.std.specs.FinMap as finite
 use Rattle.std.proofs.lemmas.Bool.{cases_lt, cases_Bool, cond-false, eq-eqb, ne_eqb, and_from, or_from, false≢true}
 use Rattle.std.proofs.lemmas.Bool.{not_from_false, not-true}
 use Rattle.kv_base.specs.Image.{Image}
 use Rattle.kv_free.specs.FreeList.{Tail, StandsFor, link_of}
-use Rattle.kv_index.specs.declared.entry.Entry.{Entry}
 use Rattle.kv_index.specs.Entries.{Entries}
 use Rattle.kv_model.specs.Layout.{all_classes}
-use Rattle.kv_model.specs.SlotBytes.{tombstone_bytes}
-use Rattle.kv_model.specs.Slots.{Slot, Never, Item, Tombstone, read_small, read_large, stamp_field}
-use Rattle.kv_model.specs.Reading.{Reading, Copy, IsFound, IsKept, IsFloor, small_slot, large_slot, slot_at, heads_at, has_class}
+use Rattle.kv_model.specs.Slots.{Never, Item, Tombstone, read_small, read_large, stamp_field}
+use Rattle.kv_model.specs.Reading.{IsFloor, small_slot, large_slot, slot_at, heads_at, has_class}
 use Rattle.kv_slot.proofs.AgainLemmas.{tombstones_again, large_tombstones_again}
 use Rattle.kv_slot.proofs.PlaceLemmas.{begin_with_stamp}
-use Rattle.kv_recover.specs.SoFar.{IsBefore, so_far}
+use Rattle.kv_recover.specs.SoFar.{so_far}
 use Rattle.kv_recover.specs.Found.{HoldsKept, copy_of}
-use Rattle.kv_recover.specs.Freed.{HasKept, Frees, FreesHeads, KeepsSame, KeepsEach}
-use Rattle.kv_recover.specs.Pass.{HasFoundBelow, IsSlabEnd, IsZeros}
-use Rattle.kv_recover.specs.Large.{IsLargeSlabEnd, AreZeroPages}
-use Rattle.kv_recover.specs.Free.{is_place, is_entry, free_slots, IsFree, IsFreedSlot, reading_of}
-use Rattle.kv_recover.specs.FreeLarge.{AnyMayBeFreed, AreFreed, IsFreedLarge}
-use Rattle.kv_recover.specs.Lists.{IsFreeList, link_at, HasLinks}
+use Rattle.kv_recover.specs.Freed.{HasKept, Frees, FreesHeads, KeepsEach}
+use Rattle.kv_recover.specs.Pass.{IsZeros}
+use Rattle.kv_recover.specs.Large.{AreZeroPages}
+use Rattle.kv_recover.specs.Free.{is_place, is_entry, free_slots, IsFree, reading_of}
+use Rattle.kv_recover.specs.FreeLarge.{AnyMayBeFreed, AreFreed}
 use Rattle.kv_recover.specs.Opened.{KeepsSlabs, IsEndOf, HasClassList}
-use Rattle.kv_recover.proofs.SoFarLemmas.{so_far-all, so_far-before, so_far-behind}
+use Rattle.kv_recover.proofs.SoFarLemmas.{so_far-all}
 use Rattle.kv_recover.proofs.FreedLemmas.{one_copy_place, kept_still, kept_same, found_before, floor_still}
 use Rattle.kv_recover.proofs.PassLemmas.{slot_at-small, heads_at-small}
 use Rattle.kv_recover.proofs.LargeLemmas.{slot_at-large, heads_at-large, read_zero_pages}

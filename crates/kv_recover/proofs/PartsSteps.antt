@@ -1,11 +1,9 @@
 -- The slabs of a prepared disk are opened.
-use Rattle.std.proofs.Common.{◌≡◌, ◌⊎◌, inl, inr, ℕ, ◌+◌, ◌-◌, ◌<◌, ◌≤◌, ◌^◌, List, [], ◌∷◌, refl, sym, ap}
-use Rattle.std.proofs.Common.{◌∙◌, subst, arith, IsTrue, zero, suc, get_or, length, map}
-use Rattle.std.specs.Prelude.{Contains}
+use Rattle.std.proofs.Common.{◌≡◌, inl, inr, ℕ, ◌<◌, ◌≤◌, List, [], ◌∷◌, sym}
+use Rattle.std.proofs.Common.{◌∙◌, subst, arith, IsTrue, zero, suc, get_or, length}
 use Rattle.std.specs.List.{AllByRecursion}
-use Rattle.kv_base.specs.Fault.{Rose}
-use Rattle.kv_base.specs.Image.{Image, zero_page}
-use Rattle.kv_base.specs.Crash.{MayLeave, Only, LeavesOnly}
+use Rattle.kv_base.specs.Image.{Image}
+use Rattle.kv_base.specs.Crash.{LeavesOnly}
 use Rattle.kv_base.proofs.CrashLemmas.{joins}
 use Rattle.kv_disk.specs.declared.disk.Disk.{Ghosts}
 use Rattle.kv_disk.specs.Steps.{OnlyReads}
@@ -14,11 +12,10 @@ use Rattle.kv_free.specs.FreeList.{Tail}
 use Rattle.kv_model.specs.Layout.{all_classes, pages_in_slot}
 use Rattle.kv_model.specs.Reading.{heads_at, large_slot, small_slot, page_of, IsFloor}
 use Rattle.kv_model.specs.Recovery.{OpensAs}
-use Rattle.kv_model.specs.Slots.{stamp_field}
 use Rattle.kv_recover.specs.declared.fault.OpenFault.{OpenFault}
 use Rattle.kv_recover.specs.declared.fault.OpenFault.TheVariants.{NotAStore, OtherStore, StampsSpent}
 use Rattle.kv_recover.specs.declared.fault.OpenFault.TheVariants.{DiskFault, NoMemory}
-use Rattle.kv_recover.specs.Causes.{AreBounded, HasSlabCause, HasMakeCause, HasOpenCause, IsPastEnd}
+use Rattle.kv_recover.specs.Causes.{HasSlabCause, HasMakeCause, HasOpenCause}
 use Rattle.kv_recover.specs.Causes.{IsSpared, IsUntouched}
 use Rattle.kv_recover.specs.HeadCheck.{AreBlank}
 use Rattle.kv_recover.specs.Opened.{KeepsStore, KeepsSlabs, IsOpenedStore, LeftOrKept, IsPrepared}

@@ -1,6 +1,6 @@
 -- Where the entries of an index are, once one more slot or one more class is seen.
-use Rattle.std.proofs.Common.{◌≡◌, ◌⊎◌, inl, inr, ℕ, ◌+◌, ◌<◌, ◌≤◌, Bool, true, false, cond, eqb, List, [], ◌∷◌}
-use Rattle.std.proofs.Common.{length, take, drop, get_or, set, Option, None, Some, refl, sym, ap, ◌∙◌, subst}
+use Rattle.std.proofs.Common.{◌≡◌, inl, inr, ℕ, ◌+◌, ◌<◌, ◌≤◌, Bool, true, false, cond, eqb, List}
+use Rattle.std.proofs.Common.{length, get_or, set, None, Some, refl, sym, ap, ◌∙◌, subst}
 use Rattle.std.proofs.Common.{arith, get_or-set_same, get_or-set_other}
 use Rattle.std.specs.FinMap as finite
 use Rattle.std.specs.Ordering.{nat_cmp}
@@ -16,7 +16,7 @@ use Rattle.kv_model.specs.Slots.{stamp_field}
 use Rattle.kv_slot.specs.Views.{read_front}
 use Rattle.kv_recover.specs.Found.{entry_at, is_older, with_newer, with_slot}
 use Rattle.kv_recover.specs.Large.{slot_from}
-use Rattle.kv_recover.specs.Pass.{IsZeros, bytes_in}
+use Rattle.kv_recover.specs.Pass.{IsZeros}
 use Rattle.kv_recover.specs.Placed.{IsPlaced, ArePlaced, with_end}
 use Rattle.kv_recover.proofs.FoundLemmas.{get_put}
 use Rattle.kv_recover.proofs.PassLemmas.{stamp_of-small}

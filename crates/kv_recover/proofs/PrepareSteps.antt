@@ -1,9 +1,9 @@
 -- The steps before the slabs of a disk are opened, in the images that a crash may leave.
-use Rattle.std.proofs.Common.{◌≡◌, ◌⊎◌, inl, inr, ℕ, ◌+◌, ◌<◌, ◌≤◌, List, refl, sym, ap, ◌∙◌, subst, arith}
+use Rattle.std.proofs.Common.{◌≡◌, inl, inr, ℕ, ◌<◌, ◌≤◌, List, refl, sym, ap, ◌∙◌, subst, arith}
 use Rattle.std.proofs.Common.{IsTrue}
 use Rattle.std.proofs.lemmas.Bool.{cases_lt, false≢true}
 use Rattle.kv_base.specs.Image.{Image, zero_page, with_page}
-use Rattle.kv_base.specs.Crash.{Choices, MayLeave, Only, NoMore, Advances, LeavesOnly}
+use Rattle.kv_base.specs.Crash.{Only, NoMore, Advances, LeavesOnly}
 use Rattle.kv_base.proofs.CrashLemmas.{started, stays, joins}
 use Rattle.kv_base.proofs.ImageLemmas.{only_image, with_page-here, with_page-other}
 use Rattle.kv_disk.specs.declared.disk.Disk.{Ghosts}
@@ -14,7 +14,7 @@ use Rattle.kv_model.specs.Layout.{all_classes}
 use Rattle.kv_model.specs.Reading.{slot_at, heads_at, has_class, IsFloor}
 use Rattle.kv_model.specs.Recovery.{OpensAs, IsNew}
 use Rattle.kv_slot.proofs.HeadLemmas.{worker_in, workers_in, zeros_no_head}
-use Rattle.kv_recover.specs.Causes.{AreBounded, IsNoOthers, IsUntouched}
+use Rattle.kv_recover.specs.Causes.{AreBounded, IsNoOthers}
 use Rattle.kv_recover.specs.HeadCheck.{AreBlank, IsMade, IsMadeNew}
 use Rattle.kv_recover.specs.Freed.{KeepsSame}
 use Rattle.kv_recover.specs.Opened.{KeepsStore, KeepsSlabs, LeftOrKept, IsPrepared}

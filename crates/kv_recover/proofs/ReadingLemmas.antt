@@ -1,17 +1,17 @@
 -- A disk that is read and not written.
 use Rattle.std.proofs.Common.{◌≡◌, ◌⊎◌, inl, inr, ℕ, ◌^◌, ◌<◌, ◌≤◌, Bool, true, false, List, Some, slice_get, get_or}
-use Rattle.std.proofs.Common.{refl, sym, ap, ◌∙◌, subst, arith, IsTrue}
+use Rattle.std.proofs.Common.{subst, arith}
 use Rattle.std.specs.FinMap as finite
 use Rattle.kv_base.specs.Image.{Image}
 use Rattle.kv_index.specs.Entries.{Entries}
 use Rattle.kv_model.specs.Head.{head_page}
 use Rattle.kv_model.specs.Layout.{all_classes}
-use Rattle.kv_model.specs.Reading.{slot_at, Copy, IsKept}
+use Rattle.kv_model.specs.Reading.{slot_at}
 use Rattle.kv_model.specs.Recovery.{OpensAs}
 use Rattle.kv_slot.proofs.HeadLemmas.{zeros_no_head}
 use Rattle.kv_recover.specs.declared.entries.Kept.{Kept}
 use Rattle.kv_recover.specs.Causes.{IsNoOthers}
-use Rattle.kv_recover.specs.Found.{HoldsKept, copy_of}
+use Rattle.kv_recover.specs.Found.{HoldsKept}
 use Rattle.kv_recover.specs.HeadCheck.{IsReadable}
 use Rattle.kv_recover.specs.Listed.{AreListed, AreKept, IsSlabPlace, entry_of}
 use Rattle.kv_recover.specs.Opened.{FindsAllBelow}

@@ -1,9 +1,9 @@
 -- Slots counted by kinds.
-use Rattle.std.proofs.Common.{◌≡◌, ◌⊎◌, inl, inr, ℕ, zero, suc, ◌+◌, ◌-◌, ◌*◌, ◌/◌, ◌%◌, ◌<◌, ◌≤◌, Bool, true, false}
-use Rattle.std.proofs.Common.{cond, eqb, List, Option, None, Some, refl, sym, ap, ◌∙◌, subst, arith}
+use Rattle.std.proofs.Common.{◌≡◌, ◌⊎◌, inl, inr, ℕ, zero, suc, ◌+◌, ◌-◌, ◌*◌, ◌/◌, ◌%◌, ◌<◌, ◌≤◌, true, false}
+use Rattle.std.proofs.Common.{cond, eqb, List, Option, refl, sym, ap, ◌∙◌, subst, arith}
 use Rattle.std.specs.FinMap as finite
-use Rattle.std.proofs.lemmas.Bool.{cases_Bool, cases_lt, cond-true, cond-false, eqb-true, eqb-false, eq-eqb}
-use Rattle.std.proofs.lemmas.Bool.{ne_eqb, false≢true, le-leb}
+use Rattle.std.proofs.lemmas.Bool.{cases_Bool, cases_lt, cond-true, cond-false, eqb-true, eqb-false}
+use Rattle.std.proofs.lemmas.Bool.{false≢true, le-leb}
 use Rattle.std.proofs.Math.Nat.{div-add-mod, mod-lt}
 use Rattle.std.proofs.lemmas.Nat.{pow_pos}
 use Rattle.kv_base.specs.Image.{Image}
@@ -12,7 +12,7 @@ use Rattle.kv_index.specs.Entries.{Entries}
 use Rattle.kv_model.specs.Layout.{all_classes, is_small, slots_in_page, slot_size}
 use Rattle.kv_model.specs.Reading.{slot_at, page_of, offset_of}
 use Rattle.kv_model.specs.Slots as slots
-use Rattle.kv_model.specs.Survey.{CountsTo, HasKept, IsOwnItem, IsForeignItem, IsStale, AreClassCounts}
+use Rattle.kv_model.specs.Survey.{CountsTo, HasKept, IsForeignItem, IsStale, AreClassCounts}
 use Rattle.kv_recover.specs.declared.kind.Kind.{Kind}
 use Rattle.kv_recover.specs.declared.kind.Kind.TheVariants.{Kept, Stale, Foreign, Tomb, Never, Torn, Bad}
 use Rattle.kv_recover.specs.declared.kind.ClassCount.{ClassCount}

@@ -1,6 +1,6 @@
 -- The slots that are freed while a disk is opened, and what they are written with.
 use Rattle.std.specs.Prelude.{◌≡◌, ◌⊎◌, ℕ, ◌<◌, ◌≤◌, ◌^◌, List, Option, None, Some, IfSome, IsTrue}
-use Rattle.std.specs.Prelude.{[], Bool, true, false, not, nat_lt, ◌==◌, ◌&&◌, ◌+◌, ◌-◌, length, slice_get}
+use Rattle.std.specs.Prelude.{[], Bool, false, not, ◌==◌, ◌&&◌, length, slice_get}
 use Rattle.std.specs.List.{filter, range_with_len}
 use Rattle.std.specs.FinMap as finite
 use Rattle.kv_base.specs.Image.{Image}

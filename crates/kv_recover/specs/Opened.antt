@@ -1,5 +1,5 @@
 -- What opening a disk of all classes keeps and gives.
-use Rattle.std.specs.Prelude.{◌≡◌, ◌⊎◌, ℕ, ◌<◌, ◌≤◌, ◌-◌, List, [], length, slice_get, slice_index, Some}
+use Rattle.std.specs.Prelude.{◌≡◌, ◌⊎◌, ℕ, ◌<◌, ◌≤◌, List, [], length, slice_get, slice_index, Some}
 use Rattle.kv_base.specs.Image.{Image, zero_page, with_page}
 use Rattle.kv_free.specs.FreeList.{Tail, StandsFor}
 use Rattle.kv_index.specs.Entries.{Entries}

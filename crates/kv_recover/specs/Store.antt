@@ -1,5 +1,5 @@
 -- A store that was opened, and a disk that was refused, to who called.
-use Rattle.std.specs.Prelude.{◌≡◌, ℕ, ◌-◌, ◌^◌, ◌<◌, ◌≤◌, List, [], length, None, Some, slice_get}
+use Rattle.std.specs.Prelude.{◌≡◌, ℕ, ◌-◌, ◌^◌, ◌<◌, ◌≤◌, List, length, None, Some, slice_get}
 use Rattle.std.specs.Prelude.{false, IsTrue}
 use Rattle.std.specs.FinMap as finite
 use Rattle.kv_base.specs.Crash.{Only, LeavesOnly}

@@ -1,5 +1,5 @@
 -- One entry more.
-use Rattle.std.proofs.Common.{◌+◌, ◌<◌, cond, sym, subst, ℕ}
+use Rattle.std.proofs.Common.{◌+◌, ◌<◌, cond, sym, subst}
 use Rattle.std.specs.FinMap as finite
 use Rattle.kv_recover.proofs.ListedLemmas.{listing-none, listing-step, listing-done}
 use Rattle.kv_recover.proofs.entries.list_all.Goals as goal

@@ -1,5 +1,5 @@
 -- The entries so far are listed.
-use Rattle.std.proofs.Common.{◌≡◌, ◌+◌, false, cond, [], ℕ}
+use Rattle.std.proofs.Common.{◌≡◌, ◌+◌, false, cond, []}
 use Rattle.std.specs.FinMap as finite
 use Rattle.kv_index.specs.Entries.{HasNoneFrom}
 use Rattle.kv_recover.specs.Listed.{IsListing}

@@ -1,5 +1,5 @@
 -- The length, the pages that may have slots, and the pages past them.
-use Rattle.std.proofs.Common.{◌≡◌, ℕ, ◌*◌, ◌<◌, ◌≤◌, inl, inr, sym, ap, ◌∙◌, subst, arith}
+use Rattle.std.proofs.Common.{◌*◌, sym, ap, ◌∙◌, subst}
 use Rattle.kv_model.specs.Layout.{slots_in_page}
 use Rattle.kv_recover.specs.Pass.{HasFound}
 use Rattle.kv_recover.proofs.SlabLemmas.{finds-class}

@@ -1,6 +1,5 @@
 -- One page more.
-use Rattle.std.proofs.Common.{◌≡◌, ℕ, ◌+◌, ◌*◌, ◌^◌, ◌≤◌, sym, ap, ◌∙◌, subst, arith}
-use Rattle.kv_base.specs.Image.{Image}
+use Rattle.std.proofs.Common.{◌≡◌, ℕ, ◌+◌, ◌*◌, ◌^◌, ◌≤◌, ap, subst, arith}
 use Rattle.kv_model.specs.Layout.{slots_in_page}
 use Rattle.kv_recover.specs.Pass.{HasFound}
 use Rattle.kv_disk.proofs.StepsLemmas.{reads-then}

@@ -1,5 +1,5 @@
 -- The slots of the pages so far are seen.
-use Rattle.std.proofs.Common.{◌≡◌, ℕ, ◌*◌, ◌≤◌, IsTrue}
+use Rattle.std.proofs.Common.{ℕ, ◌*◌, ◌≤◌, IsTrue}
 use Rattle.kv_model.specs.Layout.{slots_in_page}
 use Rattle.kv_recover.specs.Pass.{HasFound}
 use Rattle.kv_recover.specs.Placed.{HasCounts, ArePlaced, with_end}

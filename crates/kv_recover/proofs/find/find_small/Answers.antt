@@ -1,7 +1,5 @@
 -- One class more.
-use Rattle.std.proofs.Common.{◌≡◌, ℕ, ◌+◌, ◌<◌, ◌≤◌, ◌^◌, [], ◌∷◌, get_or, get_or-set_other, length-set, refl, sym, ap, ◌∙◌, subst, arith}
-use Rattle.std.proofs.lemmas.List.{get_or_past, length-replicate, get_or-replicate}
-use Rattle.std.proofs.lemmas.Bool.{cases_lt}
+use Rattle.std.proofs.Common.{◌≡◌, ℕ, get_or, get_or-set_other, length-set, refl, ◌∙◌, subst, arith}
 use Rattle.kv_recover.specs.Pass.{FindsBelow, FindsClass}
 use Rattle.kv_recover.proofs.SlabLemmas.{zero_at}
 use Rattle.kv_recover.proofs.PlacedLemmas.{placed-none, placed-begin, placed-end, ends-rest}

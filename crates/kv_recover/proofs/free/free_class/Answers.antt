@@ -1,9 +1,8 @@
 -- One page more.
-use Rattle.std.proofs.Common.{◌≡◌, ℕ, inl, inr, ◌+◌, ◌*◌, ◌<◌, ◌≤◌, min, refl, sym, ap, ◌∙◌, subst, arith}
-use Rattle.kv_base.specs.Image.{Image}
+use Rattle.std.proofs.Common.{◌≡◌, inl, inr, ◌+◌, ◌*◌, min, sym, ap, subst, arith}
 use Rattle.kv_base.proofs.CrashLemmas.{started, joins, weaker}
 use Rattle.kv_model.specs.Layout.{slots_in_page}
-use Rattle.kv_recover.specs.Free.{MayBeFreed, HasFreed}
+use Rattle.kv_recover.specs.Free.{HasFreed}
 use Rattle.kv_recover.proofs.FreeLemmas.{may-later}
 use Rattle.kv_recover.proofs.free.free_class.Goals as goal
 

@@ -1,8 +1,5 @@
 -- The class is freed to its end.
-use Rattle.std.proofs.Common.{◌≡◌, ℕ, ◌+◌, refl, sym, ap, ◌∙◌, subst}
 use Rattle.kv_base.proofs.CrashLemmas.{weaker}
-use Rattle.kv_free.specs.FreeList.{StandsFor}
-use Rattle.kv_recover.specs.Free.{free_slots, reading_of, MayBeFreed}
 use Rattle.kv_recover.proofs.FreeSteps.{freed-start, freed-end, may-class}
 use Rattle.kv_recover.proofs.free.free_next.Goals as goal
 

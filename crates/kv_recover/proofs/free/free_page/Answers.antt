@@ -1,5 +1,5 @@
 -- The page is read, freed and written, or stays where nothing would change.
-use Rattle.std.proofs.Common.{◌≡◌, ℕ, ◌+◌, ◌-◌, ◌*◌, ◌<◌, ◌≤◌, min, refl, sym, ap, ◌∙◌, subst, arith}
+use Rattle.std.proofs.Common.{◌≡◌, ℕ, ◌+◌, ◌-◌, ◌*◌, ◌<◌, ◌≤◌, min, refl, arith}
 use Rattle.kv_model.specs.Layout.{slots_in_page}
 use Rattle.std.proofs.lemmas.Nat.{pow_pos}
 use Rattle.kv_recover.proofs.FreeLemmas.{in_most}

@@ -1,8 +1,7 @@
 -- One class more.
-use Rattle.std.proofs.Common.{length, length-append, ◌≡◌, ℕ, ◌+◌, ◌-◌, ◌<◌, ◌≤◌, List, [], ◌∷◌, ◌++◌, Result, Ok, Err, OnOk, IsOk, get_or, inl, inr, refl, sym, ap, ◌∙◌, subst, arith}
-use Rattle.kv_base.specs.Image.{Image}
+use Rattle.std.proofs.Common.{length, length-append, ◌≡◌, ◌+◌, [], ◌∷◌, Result, Ok, Err, OnOk, IsOk, get_or, inl, refl, sym, ap, subst, arith}
 use Rattle.kv_base.proofs.CrashLemmas.{started, joins, weaker}
-use Rattle.kv_recover.specs.Free.{MayBeFreed, FreesBelow, HasStacks}
+use Rattle.kv_recover.specs.Free.{FreesBelow, HasStacks}
 use Rattle.kv_recover.proofs.FreeLemmas.{may-later}
 use Rattle.kv_recover.proofs.FreeSteps.{stacks-start, stacks-next}
 use Rattle.kv_recover.proofs.free.free_small.Goals as goal

@@ -1,7 +1,7 @@
 -- One class more.
-use Rattle.std.proofs.Common.{◌≡◌, ℕ, ◌+◌, ◌<◌, ◌≤◌, get_or, inl, inr, refl, sym, ap, ◌∙◌, subst, arith}
+use Rattle.std.proofs.Common.{◌≡◌, ◌+◌, get_or, inl, refl, subst, arith}
 use Rattle.kv_base.proofs.CrashLemmas.{started, joins, weaker}
-use Rattle.kv_recover.specs.FreeLarge.{AnyMayBeFreed, FreesAnyBelow}
+use Rattle.kv_recover.specs.FreeLarge.{FreesAnyBelow}
 use Rattle.kv_recover.proofs.FreeLargeSteps.{any-later}
 use Rattle.kv_recover.proofs.free_large.free_large.Goals as goal
 

@@ -1,8 +1,7 @@
 -- The first page is read, and written where the slot is freed.
-use Rattle.std.proofs.Common.{◌≡◌, ℕ, ◌≤◌, List, length, drop, length-drop, ap, ◌∙◌, sym, subst, arith, IsTrue}
+use Rattle.std.proofs.Common.{◌≡◌, ℕ, ◌≤◌, List, length, drop, length-drop, ap, ◌∙◌, subst, arith}
 use Rattle.kv_base.specs.Image.{with_page}
 use Rattle.kv_base.specs.Crash.{Adds}
-use Rattle.kv_model.specs.Reading.{page_of}
 use Rattle.kv_recover.proofs.FreeSteps.{on_ok}
 use Rattle.kv_recover.proofs.FreeLargeSteps.{large-read, large-entry, large-same, large-moments, large-done}
 use Rattle.kv_recover.proofs.free_large.free_large_at.Goals as goal

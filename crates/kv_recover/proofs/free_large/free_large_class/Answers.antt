@@ -1,7 +1,7 @@
 -- One slot more.
-use Rattle.std.proofs.Common.{◌≡◌, ℕ, inl, inr, ◌+◌, ◌<◌, ◌≤◌, refl, sym, ap, ◌∙◌, subst, arith}
+use Rattle.std.proofs.Common.{◌≡◌, inl, inr, ◌+◌, subst, arith}
 use Rattle.kv_base.proofs.CrashLemmas.{started, joins, weaker}
-use Rattle.kv_recover.specs.FreeLarge.{AnyMayBeFreed, HasFreedAny}
+use Rattle.kv_recover.specs.FreeLarge.{HasFreedAny}
 use Rattle.kv_recover.proofs.FreeLargeSteps.{any-later}
 use Rattle.kv_recover.proofs.free_large.free_large_class.Goals as goal
 

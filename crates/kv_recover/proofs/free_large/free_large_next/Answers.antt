@@ -1,7 +1,7 @@
 -- The class is freed to its end.
-use Rattle.std.proofs.Common.{length, length-append, ◌≡◌, ℕ, ◌+◌, ◌<◌, ◌≤◌, [], ◌∷◌, ◌++◌, Result, Ok, Err, OnOk, IsOk, refl, sym, ap, ◌∙◌, subst, arith}
+use Rattle.std.proofs.Common.{length, length-append, ◌+◌, [], ◌∷◌, Result, Ok, Err, OnOk, IsOk, sym, ap, subst, arith}
 use Rattle.kv_base.proofs.CrashLemmas.{weaker}
-use Rattle.kv_recover.specs.FreeLarge.{AnyMayBeFreed, FreesAnyBelow}
+use Rattle.kv_recover.specs.FreeLarge.{FreesAnyBelow}
 use Rattle.kv_recover.proofs.FreeLargeSteps.{any-start, any-end, any-class}
 use Rattle.kv_recover.proofs.free_large.free_large_next.Goals as goal
 

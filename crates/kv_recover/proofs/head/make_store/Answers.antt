@@ -1,12 +1,7 @@
 -- The slabs are read, and then the head page is written.
-use Rattle.std.proofs.Common.{◌≡◌, inl, inr, sym, ap, ◌∙◌, subst, IsTrue}
+use Rattle.std.proofs.Common.{ap, ◌∙◌}
 use Rattle.kv_base.specs.Image.{with_page}
-use Rattle.kv_base.proofs.CrashLemmas.{started, joins}
-use Rattle.kv_base.proofs.ImageLemmas.{only_image}
-use Rattle.kv_disk.proofs.StepsLemmas.{reads_on}
 use Rattle.kv_model.specs.Head.{head_page}
-use Rattle.kv_recover.specs.HeadCheck.{AreBlank, IsMadeNew}
-use Rattle.kv_recover.proofs.OpenSteps.{weaker-told}
 use Rattle.kv_recover.proofs.PrepareSteps.{settled-reads, blank-moments, made-moments}
 use Rattle.kv_recover.proofs.head.make_store.Goals as goal
 

@@ -1,5 +1,5 @@
 -- The head page is written, and synced.
-use Rattle.std.proofs.Common.{◌≡◌, ℕ, List, Result, inl, inr, ◌∙◌, sym, ap, subst}
+use Rattle.std.proofs.Common.{◌≡◌, ℕ, List, Result, inl, inr, ◌∙◌, ap}
 use Rattle.kv_base.specs.Image.{Image, with_page}
 use Rattle.kv_base.specs.Crash.{Choices, MayLeave, Only, Adds, Advances, LeavesOnly}
 use Rattle.kv_base.proofs.CrashLemmas.{started, stays, writes}

@@ -1,5 +1,5 @@
 -- A whole item has the kind of its key.
-use Rattle.std.proofs.Common.{sym, ap, ◌∙◌, true}
+use Rattle.std.proofs.Common.{sym, ap, ◌∙◌}
 use Rattle.kv_model.specs.Slots.{Item}
 use Rattle.kv_slot.specs.Views.{what_stands}
 use Rattle.kv_recover.specs.Kinds.{kind_at}

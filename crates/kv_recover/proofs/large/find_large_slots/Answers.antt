@@ -1,5 +1,5 @@
 -- One slot more.
-use Rattle.std.proofs.Common.{◌≡◌, ℕ, ◌+◌, sym, ap, ◌∙◌, subst, arith}
+use Rattle.std.proofs.Common.{◌≡◌, ◌+◌, subst, arith}
 use Rattle.kv_recover.specs.Large.{HasFoundLarge}
 use Rattle.kv_disk.proofs.StepsLemmas.{reads-then}
 use Rattle.kv_recover.proofs.large.find_large_slots.Goals as goal

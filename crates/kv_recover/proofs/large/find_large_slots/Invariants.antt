@@ -1,5 +1,5 @@
 -- The slots so far are seen.
-use Rattle.std.proofs.Common.{◌≡◌, ℕ, ◌≤◌, IsTrue}
+use Rattle.std.proofs.Common.{ℕ, ◌≤◌, IsTrue}
 use Rattle.kv_recover.specs.Large.{HasFoundLarge}
 use Rattle.kv_recover.specs.Placed.{HasCounts, ArePlaced, with_end}
 use Rattle.kv_disk.specs.Steps.{OnlyReads}

@@ -1,5 +1,5 @@
 -- One page more.
-use Rattle.std.proofs.Common.{◌≡◌, eqb, max, sym, ap, ◌∙◌}
+use Rattle.std.proofs.Common.{eqb, max, ap, ◌∙◌}
 use Rattle.std.specs.Prelude.{◌&&◌}
 use Rattle.kv_recover.proofs.LaterLemmas.{later-next}
 use Rattle.kv_recover.proofs.large.with_later.Goals as goal

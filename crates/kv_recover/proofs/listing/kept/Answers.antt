@@ -1,5 +1,4 @@
 -- What is found is listed.
-use Rattle.std.proofs.Common.{◌≡◌, sym, ap, ◌∙◌, subst}
 use Rattle.kv_recover.proofs.ReadingLemmas.{found-holds, listed-kept, listed-places}
 use Rattle.kv_recover.proofs.listing.kept.Goals as goal
 

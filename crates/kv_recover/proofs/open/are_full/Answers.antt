@@ -1,7 +1,6 @@
 -- One class more.
-use Rattle.std.proofs.Common.{◌≡◌, ℕ, ◌+◌, ◌<◌, inl, inr, Some, get_or, slice_get, sym, ap, ◌∙◌, subst, arith}
+use Rattle.std.proofs.Common.{◌≡◌, ◌+◌, inl, inr, get_or, slice_get, sym, ap, ◌∙◌, arith}
 use Rattle.std.proofs.lemmas.Bool.{cases_lt}
-use Rattle.kv_free.specs.FreeList.{Tail}
 use Rattle.kv_recover.proofs.FilteredLemmas.{get-within, get-read}
 use Rattle.kv_recover.proofs.open.are_full.Goals as goal
 

@@ -1,5 +1,5 @@
 -- One class more.
-use Rattle.std.proofs.Common.{◌≡◌, ℕ, ◌+◌, ◌<◌, ◌≤◌, ◌^◌, get_or, get_or-set_other, length-set, refl, sym, ap, ◌∙◌, subst, arith}
+use Rattle.std.proofs.Common.{◌≡◌, ℕ, get_or, get_or-set_other, length-set, ◌∙◌, subst, arith}
 use Rattle.kv_recover.specs.Opened.{FindsAllBelow}
 use Rattle.kv_recover.specs.Large.{FindsLargeClass}
 use Rattle.kv_recover.proofs.PlacedLemmas.{placed-begin, placed-end, ends-rest}

@@ -1,5 +1,5 @@
 -- The small classes are freed, then the large ones, and then all is synced.
-use Rattle.std.proofs.Common.{[], ◌∷◌, ◌++◌, Some, slice_get, Result, Ok, Err, OnOk, IsOk, arith, ◌≡◌, ℕ, get_or, refl, sym, ap, ◌∙◌, subst, IsTrue}
+use Rattle.std.proofs.Common.{[], ◌∷◌, ◌++◌, Some, slice_get, Result, Ok, Err, OnOk, IsOk, arith, ◌≡◌, get_or, sym, ap, ◌∙◌, subst}
 use Rattle.kv_free.specs.FreeList.{StandsFor}
 use Rattle.kv_base.proofs.CrashLemmas.{started, stays, joins, weaker}
 use Rattle.kv_recover.proofs.OpenSteps.{large-start, small-all, none-all, freed-synced}

@@ -1,6 +1,6 @@
 -- The disk is prepared, and then its slabs are opened.
-use Rattle.std.proofs.Common.{◌≡◌, ◌≤◌, sym, subst, arith, IsTrue}
-use Rattle.kv_recover.specs.Causes.{HasOpenCause, IsSpared, IsUntouched}
+use Rattle.std.proofs.Common.{sym, subst, IsTrue}
+use Rattle.kv_recover.specs.Causes.{HasOpenCause, IsSpared}
 use Rattle.kv_recover.proofs.CauseLemmas.{handed}
 use Rattle.kv_recover.proofs.PrepareSteps.{prepared-headed}
 use Rattle.kv_recover.proofs.PartsSteps.{parts-moments, parts-same, parts-opens, parts-cause}

@@ -1,5 +1,5 @@
 -- What is kept is found, and what isn't is freed.
-use Rattle.std.proofs.Common.{◌≡◌, ◌+◌, ◌<◌, slice_get, ap, ◌∙◌, arith}
+use Rattle.std.proofs.Common.{◌+◌, ◌<◌, slice_get, ap, ◌∙◌, arith}
 use Rattle.kv_recover.proofs.FilteredLemmas.{get-within}
 use Rattle.kv_recover.proofs.OpenSteps.{slabs-read, below-start, floor-found, entries-stand}
 use Rattle.kv_recover.proofs.OpenSteps.{slabs-freed, slabs-same, slabs-opened, bounded-found}

@@ -1,5 +1,5 @@
 -- The parts are those of an open store.
-use Rattle.std.proofs.Common.{◌≡◌, List, sym, ap, ◌∙◌, subst, ℕ}
+use Rattle.std.proofs.Common.{◌≡◌, sym, ap, subst}
 use Rattle.std.specs.FinMap as finite
 use Rattle.kv_slab.specs.Memory.{rooms_of, AreCounted}
 use Rattle.kv_slab.specs.View.{IsOpen}

@@ -1,9 +1,9 @@
 -- The head page is read, and then the slabs of a new disk.
-use Rattle.std.proofs.Common.{◌≡◌, ◌≤◌, sym, ap, ◌∙◌, subst, arith, IsTrue}
+use Rattle.std.proofs.Common.{◌≡◌, sym, subst, IsTrue}
 use Rattle.kv_base.specs.Image.{zero_page}
 use Rattle.kv_disk.proofs.StepsLemmas.{reads-then}
 use Rattle.kv_recover.specs.Causes.{HasMakeCause}
-use Rattle.kv_recover.specs.HeadCheck.{IsGoodHead, IsReadable, AreBlank}
+use Rattle.kv_recover.specs.HeadCheck.{IsGoodHead, AreBlank}
 use Rattle.kv_recover.proofs.CauseLemmas.{handed, head-cause, make-cause}
 use Rattle.kv_recover.proofs.reading.check_store.Goals as goal
 

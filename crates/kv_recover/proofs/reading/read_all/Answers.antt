@@ -1,7 +1,7 @@
 -- The disk is checked, and then all is found.
-use Rattle.std.proofs.Common.{◌≡◌, ◌≤◌, sym, ap, ◌∙◌, subst, arith, IsTrue}
+use Rattle.std.proofs.Common.{sym, subst, IsTrue}
 use Rattle.kv_disk.proofs.StepsLemmas.{reads-then}
-use Rattle.kv_recover.specs.Causes.{HasMakeCause, HasReadCause, IsPastEnd}
+use Rattle.kv_recover.specs.Causes.{HasMakeCause}
 use Rattle.kv_recover.specs.Opened.{FindsAllBelow}
 use Rattle.kv_recover.proofs.CauseLemmas.{handed, past-cause, at_first}
 use Rattle.kv_recover.proofs.ReadingLemmas.{readable-own, readable-opens}

@@ -1,12 +1,12 @@
 -- The pages of the slot have its kind.
-use Rattle.std.proofs.Common.{◌≡◌, ℕ, ◌+◌, ◌-◌, ◌≤◌, List, ◌∷◌, map, max, length, drop, length-drop, refl, sym, ap}
+use Rattle.std.proofs.Common.{◌≡◌, ℕ, ◌+◌, ◌-◌, ◌≤◌, List, ◌∷◌, map, length, drop, length-drop, refl, sym, ap}
 use Rattle.std.proofs.Common.{◌∙◌, arith}
 use Rattle.std.specs.List.{range_with_len}
 use Rattle.kv_disk.proofs.StepsLemmas.{reads-then}
 use Rattle.kv_model.specs.Layout.{all_classes, pages_in_slot}
-use Rattle.kv_model.specs.Reading.{page_of, large_slot}
+use Rattle.kv_model.specs.Reading.{page_of}
 use Rattle.kv_model.specs.Slots.{stamp_field, read_large}
-use Rattle.kv_slot.specs.Views.{what_stands, read_front}
+use Rattle.kv_slot.specs.Views.{read_front}
 use Rattle.kv_recover.specs.Kinds.{kind_at}
 use Rattle.kv_recover.specs.Large.{IsLater, slot_from}
 use Rattle.kv_recover.proofs.FreeLargeLemmas.{large_split}

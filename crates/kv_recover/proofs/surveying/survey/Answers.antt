@@ -1,6 +1,6 @@
 -- What is found is counted.
-use Rattle.std.proofs.Common.{◌≡◌, ℕ, ◌+◌, ◌-◌, ◌<◌, ◌≤◌, Some, slice_get, length, get_or, Bool, true, false}
-use Rattle.std.proofs.Common.{refl, sym, ap, ◌∙◌, subst, arith, IsTrue}
+use Rattle.std.proofs.Common.{◌≡◌, ℕ, ◌+◌, ◌-◌, ◌<◌, slice_get, get_or, Bool, true, false}
+use Rattle.std.proofs.Common.{sym, ap, ◌∙◌, subst, arith}
 use Rattle.std.proofs.lemmas.Bool.{false≢true}
 use Rattle.kv_base.specs.Image.{Image}
 use Rattle.kv_disk.proofs.StepsLemmas.{reads-then}
@@ -8,9 +8,8 @@ use Rattle.kv_model.specs.Head.{head_page}
 use Rattle.kv_model.specs.Layout.{all_classes}
 use Rattle.kv_model.specs.Reading.{slot_at, IsFloor}
 use Rattle.kv_model.specs.Recovery.{IsNew}
-use Rattle.kv_recover.specs.declared.kind.ClassCount.{ClassCount}
 use Rattle.kv_recover.specs.HeadCheck.{IsReadable}
-use Rattle.kv_recover.specs.Kinds.{kind_at, HasTally, IsClassCount}
+use Rattle.kv_recover.specs.Kinds.{kind_at, HasTally}
 use Rattle.kv_recover.specs.Opened.{IsEndOf}
 use Rattle.kv_recover.proofs.FilteredLemmas.{get-within}
 use Rattle.kv_recover.proofs.OpenedLemmas.{all-heads}

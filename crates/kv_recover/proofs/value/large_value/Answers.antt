@@ -1,5 +1,5 @@
 -- The pages of the slot have the item.
-use Rattle.std.proofs.Common.{◌≡◌, ℕ, List, map, sym, ap, ◌∙◌, arith}
+use Rattle.std.proofs.Common.{map, sym, ap, ◌∙◌}
 use Rattle.std.specs.List.{range_with_len}
 use Rattle.kv_model.specs.Layout.{all_classes, pages_in_slot}
 use Rattle.kv_model.specs.Slots.{read_large}

@@ -1,5 +1,5 @@
 -- The pages so far are read.
-use Rattle.std.proofs.Common.{◌≡◌, ℕ, ◌+◌, ◌≤◌, IsTrue, length, map}
+use Rattle.std.proofs.Common.{◌≡◌, ◌+◌, ◌≤◌, IsTrue, length, map}
 use Rattle.std.specs.List.{range_with_len}
 use Rattle.kv_disk.specs.Steps.{OnlyReads}
 use Rattle.kv_recover.proofs.value.read_pages.Given as goal

@@ -1,5 +1,5 @@
 -- The item that is kept stands in its place.
-use Rattle.std.proofs.Common.{◌≡◌, ℕ, List, sym, ap, ◌∙◌}
+use Rattle.std.proofs.Common.{sym, ap, ◌∙◌}
 use Rattle.kv_model.specs.Slots.{Item as Stored}
 use Rattle.kv_recover.proofs.value.read_value.Goals as goal
 

@@ -1,5 +1,5 @@
 -- The slot of the page has the item.
-use Rattle.std.proofs.Common.{◌≡◌, ℕ, List, take, drop, sym, ap, ◌∙◌, arith}
+use Rattle.std.proofs.Common.{take, drop, sym, ap, ◌∙◌}
 use Rattle.kv_model.specs.Layout.{all_classes, slot_size}
 use Rattle.kv_model.specs.Slots.{read_small}
 use Rattle.kv_recover.proofs.PassLemmas.{slot_at-small}

@@ -22,3 +22,4 @@ pub mod CountLemmas
 pub mod LengthLemmas
 pub mod HandOver
 pub mod KeptLemmas
+pub mod OrderLemmas

@@ -21,11 +21,13 @@ rooms_more (t ∷ tails) [] i tail end at_tail at_end = absurd (cc)
 rooms_more (t ∷ tails) (e ∷ ends) zero tail end at_tail at_end =
     let one : t ≡ tail = cc in
     let two : e ≡ end = cc in
-    ap (λ x. record { stack = x; end = e } ∷ []) one ∙ ap (λ y. record { stack = tail; end = y } ∷ []) two
+    ap (λ x. record { stack = x; end = e } ∷ []) one ∙ ap (λ y. record { stack = tail; end = y } ∷
+    []) two
 rooms_more (t ∷ tails) (e ∷ ends) (suc i) tail end at_tail at_end =
     let n : suc i + 1 ≡ suc (i + 1) = omega arith in
     ap (λ k. take k (rooms_of (t ∷ tails) (e ∷ ends))) n
-    ∙ ap (λ rs. record { stack = t; end = e } ∷ rs) (rooms_more tails ends i tail end at_tail at_end)
+    ∙ ap (λ rs. record { stack = t; end = e } ∷ rs) (rooms_more tails ends i tail end at_tail
+    at_end)
 
 -- as many classes
 pub rooms_count : (tails : List Tail) (ends : List ℕ) → length tails ≡ length ends

@@ -1,7 +1,8 @@
 -- Images inside a round, of which each page is as before it or as behind it.
 use Rattle.std.specs.List.{slice_get}
 use Rattle.std.proofs.Common.{◌≡◌, ◌⊎◌, inl, inr, ◌∙◌, ℕ, zero, suc, ◌+◌, ◌*◌, ◌%◌, ◌<◌, ◌≤◌}
-use Rattle.std.proofs.Common.{List, [], ◌∷◌, length, take, drop, Option, None, Some, refl, sym, ap, arith}
+use Rattle.std.proofs.Common.{List, [], ◌∷◌, length, take, drop, Option, None, Some, refl, sym, ap}
+use Rattle.std.proofs.Common.{arith}
 use Rattle.std.proofs.lemmas.Bool.{cases_eq}
 use Rattle.std.proofs.lemmas.Nat.{mod-mul-add}
 use Rattle.kv_base.specs.Image.{Image}
@@ -30,25 +31,27 @@ target_or_not (x ∷ moves) c s = elim (here_or_not x.to refl) [
   ]
 ]
   where
-  here_or_not : (o : Option Place) → x.to ≡ o → ((p : Place) × (x.to ≡ Some p)
-      × IsPlace c s p.class p.slot) ⊎ ((p : Place) → x.to ≡ Some p
-      → IsPlace c s p.class p.slot → ⊥)
-  here_or_not None is = inr (λ p to here. absurd (let e = sym is ∙ to in cc))
-  here_or_not (Some q) is = elim (one_place c s q.class q.slot) [
-    | inl same ↦ inl (q, is, same)
-    | inr far ↦ inr (λ p to here.
-        let e : q ≡ p = (let f = sym is ∙ to in cc) in
-        far (here.0 ∙ ap (λ (y : Place). y.class) (sym e)) (here.1 ∙ ap (λ (y : Place). y.slot) (sym e)))
-  ]
-  none_of : ((p : Place) → x.to ≡ Some p → IsPlace c s p.class p.slot → ⊥)
-      → ((i : ℕ) (m : Move) (p : Place) → slice_get moves i ≡ Some m → m.to ≡ Some p
-      → IsPlace c s p.class p.slot → ⊥)
-      → (i : ℕ) (m : Move) (p : Place) → slice_get (x ∷ moves) i ≡ Some m → m.to ≡ Some p
-      → IsPlace c s p.class p.slot → ⊥
-  none_of not_here none zero m p at to here =
-      let e : x ≡ m = cc in
-      not_here p (ap (λ (y : Move). y.to) e ∙ to) here
-  none_of not_here none (suc i) m p at to here = none i m p at to here
+    here_or_not : (o : Option Place) → x.to ≡ o → ((p : Place) × (x.to ≡ Some p)
+        × IsPlace c s p.class p.slot) ⊎ ((p : Place) → x.to ≡ Some p
+        → IsPlace c s p.class p.slot → ⊥)
+    here_or_not None is = inr (λ p to here. absurd (let e = sym is ∙ to in cc))
+    here_or_not (Some q) is = elim (one_place c s q.class q.slot) [
+      | inl same ↦ inl (q, is, same)
+      | inr far ↦ inr (λ p to here.
+          let e : q ≡ p = (let f = sym is ∙ to in cc) in
+          far (here.0 ∙ ap (λ (y : Place). y.class) (sym e))
+          (here.1 ∙ ap (λ (y : Place). y.slot) (sym e)))
+    ]
+
+    none_of : ((p : Place) → x.to ≡ Some p → IsPlace c s p.class p.slot → ⊥)
+        → ((i : ℕ) (m : Move) (p : Place) → slice_get moves i ≡ Some m → m.to ≡ Some p
+        → IsPlace c s p.class p.slot → ⊥)
+        → (i : ℕ) (m : Move) (p : Place) → slice_get (x ∷ moves) i ≡ Some m → m.to ≡ Some p
+        → IsPlace c s p.class p.slot → ⊥
+    none_of not_here none zero m p at to here =
+        let e : x ≡ m = cc in
+        not_here p (ap (λ (y : Move). y.to) e ∙ to) here
+    none_of not_here none (suc i) m p at to here = none i m p at to here
 
 -- a small slot lies in one page
 pub mix_small : (a b image : Image) → Mix a b image → (c s : ℕ) → c ≤ 7
@@ -97,34 +100,34 @@ pub mix_first : (a b image : Image) → Mix a b image → StillLater a b → (c 
 mix_first a b image mix still c s above limit =
     let first : page_of c s ≡ page_of c s + 0 = omega arith in
     let at_first : (im jm : Image) → im c (page_of c s) ≡ jm c (page_of c s) → (page : ℕ)
-        → page ≡ 0 → im c (page_of c s + page) ≡ jm c (page_of c s + page) =
-        λ im jm same page none.
-        let e : page_of c s + page ≡ page_of c s = omega arith in
-        ap (im c) e ∙ same ∙ ap (jm c) (sym e) in
+    → page ≡ 0 → im c (page_of c s + page) ≡ jm c (page_of c s + page) =
+    λ im jm same page none.
+    let e : page_of c s + page ≡ page_of c s = omega arith in
+    ap (im c) e ∙ same ∙ ap (jm c) (sym e) in
     let later : (page : ℕ) → 1 ≤ page → page < pages_in_slot c
-        → b c (page_of c s + page) ≡ a c (page_of c s + page) =
-        λ page some below. still c (page_of c s + page) above limit
-        (later_page c s page above some below) in
+    → b c (page_of c s + page) ≡ a c (page_of c s + page) =
+    λ page some below. still c (page_of c s + page) above limit
+    (later_page c s page above some below) in
     elim (mix c (page_of c s)) [
       | inl one ↦ inl (slot_same a image c s (record {
-          small = λ low. absurd (omega arith);
-          large = λ _ page below. elim (cases_eq page 0) [
-            | inl none ↦ at_first image a one page none
-            | inr some ↦ elim (mix c (page_of c s + page)) [
-              | inl is ↦ is
-              | inr is ↦ is ∙ later page (omega arith) below
-            ]
-          ];
+        small = λ low. absurd (omega arith);
+        large = λ _ page below. elim (cases_eq page 0) [
+          | inl none ↦ at_first image a one page none
+          | inr some ↦ elim (mix c (page_of c s + page)) [
+            | inl is ↦ is
+            | inr is ↦ is ∙ later page (omega arith) below
+          ]
+        ];
       }))
       | inr two ↦ inr (slot_same b image c s (record {
-          small = λ low. absurd (omega arith);
-          large = λ _ page below. elim (cases_eq page 0) [
-            | inl none ↦ at_first image b two page none
-            | inr some ↦ elim (mix c (page_of c s + page)) [
-              | inl is ↦ is ∙ sym (later page (omega arith) below)
-              | inr is ↦ is
-            ]
-          ];
+        small = λ low. absurd (omega arith);
+        large = λ _ page below. elim (cases_eq page 0) [
+          | inl none ↦ at_first image b two page none
+          | inr some ↦ elim (mix c (page_of c s + page)) [
+            | inl is ↦ is ∙ sym (later page (omega arith) below)
+            | inr is ↦ is
+          ]
+        ];
       }))
     ]
 

@@ -33,8 +33,8 @@ map_same f g a (suc n) same =
     let first : a ≡ a + 0 = omega arith in
     let here : f a ≡ g a = ap f first ∙ same 0 (omega arith) ∙ ap g (sym first) in
     let rest = map_same f g (a + 1) n (λ j below.
-        let e : a + 1 + j ≡ a + suc j = omega arith in
-        ap f e ∙ same (suc j) (omega arith) ∙ ap g (sym e)) in
+    let e : a + 1 + j ≡ a + suc j = omega arith in
+    ap f e ∙ same (suc j) (omega arith) ∙ ap g (sym e)) in
     ap (λ x. x ∷ map f (range_with_len (a + 1) n)) here ∙ ap (λ xs. g a ∷ xs) rest
 
 -- a run of numbers has its length
@@ -161,7 +161,8 @@ set_of_sets class slot bytes now stamp old new low high reads stamp_is sets = re
 -- a small slot leaves the large ones alone
 pub sets_later : (class slot : ℕ) (bytes : List ℕ) (old new : Image) → class ≤ 7
     → Sets class slot bytes old new → StillLater old new
-sets_later class slot bytes old new high sets c p low limit out = sets.files c p (λ same. omega arith)
+sets_later class slot bytes old new high sets c p low limit out = sets.files c p
+    (λ same. omega arith)
 
 drop_all : {X : Type 0} (n : ℕ) (xs : List X) → length xs ≤ n → drop n xs ≡ []
 drop_all zero [] few = refl
@@ -190,7 +191,8 @@ pub sets_page : (image : Image) (slot : ℕ) (bytes : List ℕ) → length bytes
     → Sets 7 slot bytes image (with_page image 7 (page_of 7 slot) bytes)
 sets_page image slot bytes size =
     let new = with_page image 7 (page_of 7 slot) bytes in
-    let start : offset_of 7 slot ≡ 0 = (let e : slot % 1 ≡ 0 = omega arith in ap (λ n. n * 4096) e) in
+    let start : offset_of 7 slot ≡ 0 = (let e : slot % 1 ≡ 0 = omega arith in ap (λ n. n * 4096) e)
+    in
     record {
       here = ap (λ p. take (slot_size 7) (drop (offset_of 7 slot) p))
           (with_page-here image 7 (page_of 7 slot) bytes)
@@ -198,10 +200,13 @@ sets_page image slot bytes size =
           ∙ take_whole 4096 bytes (omega arith);
       others = λ c s low other. ap (λ p. take (slot_size c) (drop (offset_of c s) p))
           (with_page-other image 7 (page_of 7 slot) bytes c (page_of c s) (λ file page.
-          other (file, (
-            let e : page_of 7 s ≡ page_of 7 slot = ap (λ d. page_of d s) (sym file) ∙ page in
-            let f : s / 1 ≡ slot / 1 = e in
-            omega arith))));
+          other (
+            file,
+            (
+                let e : page_of 7 s ≡ page_of 7 slot = ap (λ d. page_of d s) (sym file) ∙ page in
+                let f : s / 1 ≡ slot / 1 = e in
+                omega arith),
+          )));
       files = λ f p other. with_page-other image 7 (page_of 7 slot) bytes f p
           (λ same _. other same);
     }
@@ -340,9 +345,11 @@ large_vacated class slot stamp link old low high fits small =
     let first = page_of class slot in
     let put = with_page old class first bytes in
     let later = map (λ p. old class p) (range_with_len (first + 1) (pages_in_slot class - 1)) in
-    let rest : map (λ p. put class p) (range_with_len (first + 1) (pages_in_slot class - 1)) ≡ later =
+    let rest : map (λ p. put class p) (range_with_len (first + 1) (pages_in_slot class - 1))
+    ≡ later =
     map_same (λ p. put class p) (λ p. old class p) (first + 1) (pages_in_slot class - 1)
-    (λ j below. with_page-other old class first bytes class (first + 1 + j) (λ _ same. omega arith)) in
+    (λ j below. with_page-other old class first bytes class (first + 1 + j) (λ _ same. omega arith))
+    in
     let there : large_slot put class slot ≡ bytes ∷ later =
     large_first put class slot
     ∙ ap (λ x. x ∷ map (λ p. put class p) (range_with_len (first + 1) (pages_in_slot class - 1)))
@@ -368,11 +375,13 @@ large_vacated class slot stamp link old low high fits small =
       still = still;
       floor = λ bound le bounded. floor_set class slot bound old put still
           (subst (λ heads. AllByRecursion (λ head. head ≤ bound) heads)
-          (sym (heads_at-large put class slot low high ∙ ap (map stamp_field) there))
-          ((let e = begin_with_stamp.tombstone class stamp link fits in omega arith),
-          (subst (λ heads. AllByRecursion (λ head. head ≤ bound) heads)
-          (heads_at-large old class slot low high ∙ ap (map stamp_field) (large_first old class slot))
-          (bounded class slot)).1)) bounded;
+          (sym (heads_at-large put class slot low high ∙ ap (map stamp_field) there)) (
+            (let e = begin_with_stamp.tombstone class stamp link fits in omega arith),
+            (subst (λ heads. AllByRecursion (λ head. head ≤ bound) heads)
+                (heads_at-large old class slot low high ∙ ap (map stamp_field)
+                (large_first old class slot))
+                (bounded class slot)).1,
+          )) bounded;
     }
 
 -- it is no page that a slot begins behind
@@ -381,11 +390,12 @@ pub vacated_later : (class slot : ℕ) (content : List ℕ) (old : Image) → 7 
 vacated_later class slot content old low c p above limit out =
     with_page-other old class (page_of class slot) content c p (λ same page.
     out (
-      let here : page_of class slot ≡ slot * pages_in_slot class = large_place class slot (omega arith) in
-      let at : p ≡ slot * pages_in_slot c =
-      page ∙ here ∙ ap (λ d. slot * pages_in_slot d) (sym same) in
-      ap (λ n. n % pages_in_slot c) at ∙ multiple slot (pages_in_slot c) (pow_pos (c - 7))))
-    where
+    let here : page_of class slot ≡ slot * pages_in_slot class = large_place class slot
+    (omega arith) in
+    let at : p ≡ slot * pages_in_slot c =
+    page ∙ here ∙ ap (λ d. slot * pages_in_slot d) (sym same) in
+    ap (λ n. n % pages_in_slot c) at ∙ multiple slot (pages_in_slot c) (pow_pos (c - 7))))
+  where
     multiple : (a q : ℕ) → 0 < q → a * q % q ≡ 0
     multiple a q some =
         let e : a * q ≡ a * q + 0 = omega arith in

@@ -54,8 +54,10 @@ slot_at-same a b class slot same =
     let files : a class ≡ b class = λ i p. same p i in
     ap (λ (file : ℕ → List ℕ). cond (has_class all_classes class)
     (cond (is_small class)
-    (read_small all_classes class (take (slot_size class) (drop (offset_of class slot) (file (page_of class slot)))))
-    (read_large all_classes class (map (λ page. file page) (range_with_len (page_of class slot) (pages_in_slot class)))))
+    (read_small all_classes class (take (slot_size class) (drop (offset_of class slot)
+    (file (page_of class slot)))))
+    (read_large all_classes class (map (λ page. file page) (range_with_len (page_of class slot)
+    (pages_in_slot class)))))
     (Never 0)) files
 
 module _ (class : ℕ) (high : class ≤ 7) where
@@ -109,42 +111,53 @@ pub sets_slot : (image : Image) (class slot : ℕ) (bytes content : List ℕ) �
     → Sets class slot bytes image (with_page image class (page_of class slot) content)
 sets_slot image class slot bytes content high size fits is =
     let page = image class (page_of class slot) in
-    let put = stay_in_place page bytes (offset_of class slot) (omega (arith, slot_fits class high slot, fits, size)) in
+    let put = stay_in_place page bytes (offset_of class slot)
+    (omega (arith, slot_fits class high slot, fits, size)) in
     let new = with_page image class (page_of class slot) content in
     record {
       here = ap (λ p. take (slot_size class) (drop (offset_of class slot) p))
-          (with_page-at image class (page_of class slot) content class (page_of class slot) refl refl ∙ is)
-          ∙ ap (λ n. take n (drop (offset_of class slot) (overwritten page (offset_of class slot) bytes))) (sym fits)
+          (with_page-at image class (page_of class slot) content class (page_of class slot) refl
+          refl ∙ is)
+          ∙ ap (λ n. take n (drop (offset_of class slot) (overwritten page (offset_of class slot)
+          bytes))) (sym fits)
           ∙ put.put;
       others = λ c s low other. elim (one_place c (page_of c s) class (page_of class slot)) [
         | inl one ↦
             let far : s ≡ slot → ⊥ = λ same. other (one.0, same) in
-            let pages : page_of class s ≡ page_of class slot = ap (λ d. page_of d s) (sym one.0) ∙ one.1 in
-            let same : take (slot_size class) (drop (offset_of class s) (overwritten page (offset_of class slot) bytes))
+            let pages : page_of class s ≡ page_of class slot = ap (λ d. page_of d s) (sym one.0)
+            ∙ one.1 in
+            let same : take (slot_size class) (drop (offset_of class s)
+            (overwritten page (offset_of class slot) bytes))
             ≡ take (slot_size class) (drop (offset_of class s) page) =
             elim (slots_apart class high s slot pages far) [
               | inl before ↦ put.before (offset_of class s) (slot_size class) before
-              | inr behind ↦ put.behind (offset_of class s) (slot_size class) (omega (arith, behind, fits))
+              | inr behind ↦ put.behind (offset_of class s) (slot_size class)
+                  (omega (arith, behind, fits))
             ] in
             ap (λ p. take (slot_size c) (drop (offset_of c s) p))
             (with_page-at image class (page_of class slot) content c (page_of c s) one.0 one.1 ∙ is)
-            ∙ ap (λ d. take (slot_size d) (drop (offset_of d s) (overwritten page (offset_of class slot) bytes))) one.0
+            ∙ ap (λ d. take (slot_size d) (drop (offset_of d s)
+            (overwritten page (offset_of class slot) bytes))) one.0
             ∙ same
             ∙ ap (λ d. take (slot_size d) (drop (offset_of d s) page)) (sym one.0)
-            ∙ ap (λ d. take (slot_size c) (drop (offset_of c s) (image d (page_of class slot)))) (sym one.0)
+            ∙ ap (λ d. take (slot_size c) (drop (offset_of c s) (image d (page_of class slot))))
+            (sym one.0)
             ∙ ap (λ q. take (slot_size c) (drop (offset_of c s) (image c q))) (sym one.1)
         | inr apart ↦ ap (λ p. take (slot_size c) (drop (offset_of c s) p))
             (with_page-other image class (page_of class slot) content c (page_of c s) apart)
       ];
-      files = λ f p other. with_page-other image class (page_of class slot) content f p (λ same _. other same);
+      files = λ f p other. with_page-other image class (page_of class slot) content f p
+          (λ same _. other same);
     }
 
 -- what stands in the slots then
-pub reads_set : (class slot : ℕ) (bytes : List ℕ) (now : Slot) (old new : Image) → 1 ≤ class → class ≤ 7
+pub reads_set : (class slot : ℕ) (bytes : List ℕ) (now : Slot) (old new : Image) → 1 ≤ class
+    → class ≤ 7
     → read_small all_classes class bytes ≡ now → Sets class slot bytes old new
     → ReadsSet class slot now (slot_at all_classes old) (slot_at all_classes new)
 reads_set class slot bytes now old new low high reads sets = record {
-  here = slot_at-small new class slot low high ∙ ap (read_small all_classes class) sets.here ∙ reads;
+  here = slot_at-small new class slot low high ∙ ap (read_small all_classes class) sets.here
+      ∙ reads;
   others = λ c s other. elim (cases_lt c 8) [
     | inl below ↦ elim (cases_eq c 0) [
       | inl none ↦ ap (λ d. slot_at all_classes new d s) none ∙ slot_at-none new s
@@ -180,7 +193,7 @@ mix_slot a b image files mix c s = elim (cases_lt c 8) [
         ]
   ]
   | inr above ↦ inl (slot_at-same image a c s (λ p. elim (mix c p) [
-      | inl one ↦ one
-      | inr two ↦ two ∙ files c p above
-    ]))
+    | inl one ↦ one
+    | inr two ↦ two ∙ files c p above
+  ]))
 ]

@@ -1,5 +1,6 @@
 -- Pages that are written whole.
-use Rattle.std.proofs.Common.{◌≡◌, inl, inr, ◌∙◌, ℕ, ◌<◌, ◌≤◌, ◌^◌, List, length, replicate, Option, Some, IfSome}
+use Rattle.std.proofs.Common.{◌≡◌, inl, inr, ◌∙◌, ℕ, ◌<◌, ◌≤◌, ◌^◌, List, length, replicate, Option}
+use Rattle.std.proofs.Common.{Some, IfSome}
 use Rattle.std.proofs.Common.{sym, ap, subst, arith}
 use Rattle.std.proofs.lemmas.Bool.{cases_lt, cond-true, cond-false, le-leb, lt-leb}
 use Rattle.std.proofs.lemmas.List.{length-replicate}
@@ -12,14 +13,20 @@ use Rattle.kv_slot.specs.Overwrite.{overwritten}
 use Rattle.kv_slot.proofs.AgainLemmas.{items_again, tombstones_again}
 use Rattle.kv_slot.proofs.PlaceLemmas.{have_their_size, begin_with_stamp}
 use Rattle.kv_slab.specs.Images.{Sets, IsSlotSet, StillLater}
-use Rattle.kv_slab.proofs.SetLemmas.{set_of_sets, sets_page, whole_over, large_vacated, vacated_later}
+use Rattle.kv_slab.proofs.SetLemmas.{set_of_sets, sets_page, whole_over, large_vacated}
+use Rattle.kv_slab.proofs.SetLemmas.{vacated_later}
 
 -- the image with a page of zeros over which these bytes were put
 put_is : (file page number : ℕ) (zeros bytes content : List ℕ) (old new : Image) → number ≡ page
     → zeros ≡ replicate 4096 0 → length bytes ≡ 4096 → content ≡ overwritten zeros 0 bytes
     → new ≡ with_page old file number content → new ≡ with_page old file page bytes
 put_is file page number zeros bytes content old new number_is zeros_are size content_is set =
-    let few : length zeros ≤ length bytes = omega (arith, ap length zeros_are, size, length-replicate {A = ℕ} 4096 0) in
+    let few : length zeros ≤ length bytes = omega (
+      arith,
+      ap length zeros_are,
+      size,
+      length-replicate {A = ℕ} 4096 0,
+    ) in
     set ∙ ap (λ n. with_page old file n content) number_is
     ∙ ap (λ x. with_page old file page x) (content_is ∙ whole_over zeros bytes few)
 
@@ -36,14 +43,16 @@ item_page class slot stamp key value old new number zeros content seven fits of 
     let low : 1 ≤ class = omega arith in
     let bytes = item_bytes class stamp key value in
     let size : length bytes ≡ 4096 = have_their_size.item all_classes class stamp key value high of
-        ∙ ap slot_size seven in
-    let is = put_is class (page_of class slot) number zeros bytes content old new number_is zeros_are
-        size content_is set in
+    ∙ ap slot_size seven in
+    let is = put_is class (page_of class slot) number zeros bytes content old new number_is
+    zeros_are
+    size content_is set in
     set_of_sets class slot bytes (Item stamp key value) stamp old new low high
     (items_again all_classes class stamp key value high fits of)
     (begin_with_stamp.item class stamp key value fits)
-    (subst (λ im. Sets class slot bytes old im) (sym is) (page_sets class slot bytes old seven size))
-    where
+    (subst (λ im. Sets class slot bytes old im) (sym is) (page_sets class slot bytes old seven
+    size))
+  where
     page_sets : (class slot : ℕ) (bytes : List ℕ) (old : Image) → class ≡ 7 → length bytes ≡ 4096
         → Sets class slot bytes old (with_page old class (page_of class slot) bytes)
     page_sets class slot bytes old seven size =
@@ -55,14 +64,15 @@ tombstone_whole : (class stamp : ℕ) (link : Option ℕ) → 7 ≤ class → cl
     → length (tombstone_bytes class stamp link) ≡ 4096
 tombstone_whole class stamp link low high = have_their_size.tombstone class stamp link
     ∙ whole_size class low
-    where
+  where
     whole_size : (class : ℕ) → 7 ≤ class → tombstone_size class ≡ 4096
     whole_size class low = elim (cases_lt class 8) [
       | inl seven ↦
           let is : class ≡ 7 = omega arith in
           cond-true (is_small class) (slot_size class) 4096 (le-leb class 7 (omega arith))
           ∙ ap slot_size is
-      | inr large ↦ cond-false (is_small class) (slot_size class) 4096 (lt-leb class 7 (omega arith))
+      | inr large ↦ cond-false (is_small class) (slot_size class) 4096
+          (lt-leb class 7 (omega arith))
     ]
 
 pub tombstone_page : (class slot stamp : ℕ) (link : Option ℕ) (old new : Image) (number : ℕ)
@@ -75,8 +85,9 @@ tombstone_page class slot stamp link old new number zeros content low high fits 
     zeros_are content_is set =
     let bytes = tombstone_bytes class stamp link in
     let size = tombstone_whole class stamp link low high in
-    let is = put_is class (page_of class slot) number zeros bytes content old new number_is zeros_are
-        size content_is set in
+    let is = put_is class (page_of class slot) number zeros bytes content old new number_is
+    zeros_are
+    size content_is set in
     subst (λ im. IsSlotSet class slot (Tombstone stamp link) stamp old im) (sym is)
     (elim (cases_lt class 8) [
       | inl less ↦

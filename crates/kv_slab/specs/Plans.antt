@@ -12,7 +12,7 @@ use Rattle.kv_index.specs.Entries.{Entries}
 use Rattle.kv_model.specs.Layout.{all_classes}
 use Rattle.kv_model.specs.Reading.{slot_at}
 use Rattle.kv_slab.specs.Rounds.{Index}
-use Rattle.kv_slab.specs.Pages.{over, ArePages}
+use Rattle.kv_slab.specs.Pages.{over, ArePages, IsOrder}
 use Rattle.kv_slab.specs.Moves.{AreDistinct, AllFit, AreAllMoves, FirstSoFar}
 use Rattle.kv_slab.specs.Moves.{SecondSoFar, StillFirst, StillSecond, AreWhole, AreUpTo}
 use Rattle.kv_slab.specs.Rooms.{Rooms, AreRooms, ArePlaced, AreLinked, needed, left_slots}
@@ -78,6 +78,8 @@ pub record IsPlanned (tells : Bool) (seen : Image) (entries : Entries) (spare : 
   pub few : finite.len entries + length plan.moves.items < 2 ^ 32
   pub first : ArePages plan.first.items
   pub second : ArePages plan.second.items
+  pub orders : IsOrder plan.first.items plan.first_order.items
+      × IsOrder plan.second.items plan.second_order.items
   pub counts : (length plan.first.items ≤ 16 * length changes)
       × (length plan.second.items ≤ length changes)
   pub sizes : (length plan.stacks.items ≡ 12) × (length plan.ends.items ≡ 12)

@@ -1,4 +1,5 @@
-ghost use Rattle.std.specs.Prelude.{◌≡◌, ℕ, List, ◌+◌, ◌≤◌, ◌<◌, ◌^◌, ◌-◌, None, Some, OnOk, IfOk, IfErr};
+ghost use Rattle.std.specs.Prelude.{◌≡◌, ℕ, List, ◌+◌, ◌≤◌, ◌<◌, ◌^◌, ◌-◌, None, Some, OnOk, IfOk};
+ghost use Rattle.std.specs.Prelude.{IfErr};
 ghost use Rattle.std.specs.Prelude.{IsTrue, length, position, MatchOption};
 ghost use Rattle.std.specs.Option.{ForSome};
 ghost use Rattle.kv_base.specs.Image.{Image, with_page};
@@ -141,14 +142,7 @@ pub fn place_spot(place: Place) -> (u32, u32)
     spot(place)
 }
 
-fn item_into(
-    page: &mut [u8; 4096],
-    class: u8,
-    offset: u32,
-    stamp: u64,
-    key: &[u8],
-    value: &[u8],
-)
+fn item_into(page: &mut [u8; 4096], class: u8, offset: u32, stamp: u64, key: &[u8], value: &[u8])
     requires class { (1 ≤ class) × (class ≤ 7) }
     requires within { offset + slot_size class ≤ 4096 }
     requires item { class_of all_classes (length key.now) (length value.now) ≡ Some class }
@@ -159,13 +153,7 @@ fn item_into(
     put_item(page, class, offset, stamp, key, value);
 }
 
-fn tombstone_into(
-    page: &mut [u8; 4096],
-    class: u8,
-    offset: u32,
-    stamp: u64,
-    link: Option<u32>,
-)
+fn tombstone_into(page: &mut [u8; 4096], class: u8, offset: u32, stamp: u64, link: Option<u32>)
     requires class { (1 ≤ class) × (class ≤ 11) }
     requires small { class ≤ 7 → offset + slot_size class ≤ 4096 }
     requires large { 8 ≤ class → offset ≡ 0 }

@@ -20,36 +20,47 @@ use kv_base::{Bytes, Place};
 use kv_cache::Cached;
 use kv_disk::Disk;
 use kv_index::Index;
+use kv_lanes::same;
 use kv_slot::{Large, PageList, Slot, read_large, read_slot};
 use std::alloc::Global;
 
-/// The value of the item in the slot. A slot without one is answered by `NoMemory`.
+/// The value of the key's item in the slot. A slot without it is answered by `NoMemory`.
 fn value_in(
     alloc: Global,
     page: &[u8; 4096],
     class: u8,
     offset: u32,
+    key: &[u8],
 ) -> Result<Bytes, StepFault>
     requires class { (1 ≤ class) × (class ≤ 7) }
     requires within { offset + slot_size class ≤ 4096 }
-    ensures value { IfOk result (λ v. (stamp : ℕ) (key value : List ℕ) → read_small all_classes class
+    ensures value { IfOk result (λ v. (stamp : ℕ) (key value : List ℕ)
+        → read_small all_classes class
         (take (slot_size class) (drop offset page.now)) ≡ Stored stamp key value → v ≡ value) }
     ensures cause { IfErr result (λ fault. fault ≡ StepFault.NoMemory) }
 {
     match read_slot(page, class, offset) {
-        Slot::Item { value, .. } => match Bytes::copy(alloc, value) {
-            Ok(copy) => Ok(copy),
-            Err(_) => Err(StepFault::NoMemory),
-        },
+        Slot::Item {
+            key: found,
+            value,
+            ..
+        } => {
+            if same(found, key) {
+                Ok(Bytes::copy(alloc, value)?)
+            } else {
+                Err(StepFault::NoMemory)
+            }
+        }
         _ => Err(StepFault::NoMemory),
     }
 }
 
-/// The value of the item at the place, in the classes 1 to 7.
+/// The value of the key's item at the place, in the classes 1 to 7.
 fn read_small_value<D: Disk>(
     alloc: Global,
     disk: &mut Cached<D>,
     place: Place,
+    key: &[u8],
 ) -> Result<Bytes, StepFault>
     requires place { IsSlabPlace place }
     requires small { place.class ≤ 7 }
@@ -62,7 +73,7 @@ fn read_small_value<D: Disk>(
     let (number, offset) = place_spot(place);
     let mut page = [0; 4096];
     read_page(disk, place.class, number, &mut page)?;
-    value_in(alloc, &page, place.class, offset)
+    value_in(alloc, &page, place.class, offset, key)
 }
 
 /// The pages of one slot of this class, 8 to 11.
@@ -104,9 +115,14 @@ fn read_pages<D: Disk>(
     Ok(pages)
 }
 
-/// The value of the item in a slot of the classes 8 to 11, given its pages. A slot without one is
-/// answered by `NoMemory`.
-fn large_value(alloc: Global, pages: &[[u8; 4096]], class: u8) -> Result<Bytes, StepFault>
+/// The value of the key's item in a slot of the classes 8 to 11, given its pages. A slot without it
+/// is answered by `NoMemory`.
+fn large_value(
+    alloc: Global,
+    pages: &[[u8; 4096]],
+    class: u8,
+    key: &[u8],
+) -> Result<Bytes, StepFault>
     requires class { (8 ≤ class) × (class ≤ 11) }
     requires pages { length pages.now ≡ pages_in_slot class }
     ensures value { IfOk result (λ v. (stamp : ℕ) (key value : List ℕ)
@@ -114,16 +130,29 @@ fn large_value(alloc: Global, pages: &[[u8; 4096]], class: u8) -> Result<Bytes, 
     ensures cause { IfErr result (λ fault. fault ≡ StepFault.NoMemory) }
 {
     match read_large(alloc, pages, class) {
-        Ok(Large::Item { value, .. }) => Ok(value),
+        Ok(
+            Large::Item {
+                key: found,
+                value,
+                ..
+            },
+        ) => {
+            if same(found.as_slice(), key) {
+                Ok(value)
+            } else {
+                Err(StepFault::NoMemory)
+            }
+        }
         _ => Err(StepFault::NoMemory),
     }
 }
 
-/// The value of the item at the place, in the classes 8 to 11.
+/// The value of the key's item at the place, in the classes 8 to 11.
 fn read_large_value<D: Disk>(
     alloc: Global,
     disk: &mut Cached<D>,
     place: Place,
+    key: &[u8],
 ) -> Result<Bytes, StepFault>
     requires place { IsSlabPlace place }
     requires large { 8 ≤ place.class }
@@ -136,14 +165,15 @@ fn read_large_value<D: Disk>(
 {
     let (first, _) = place_spot(place);
     let pages = read_pages(alloc, disk, place.class, first, slot_pages(place.class))?;
-    large_value(alloc, pages.as_slice(), place.class)
+    large_value(alloc, pages.as_slice(), place.class, key)
 }
 
-/// The value of the item at the place.
+/// The value of the key's item at the place.
 fn read_value<D: Disk>(
     alloc: Global,
     disk: &mut Cached<D>,
     place: Place,
+    key: &[u8],
 ) -> Result<Bytes, StepFault>
     requires place { IsSlabPlace place }
     ensures value { IsTrue D.tells → IfOk result (λ v. (stamp : ℕ) (key value : List ℕ)
@@ -154,9 +184,9 @@ fn read_value<D: Disk>(
     ensures cause { IfErr result (HasStepCause (D.faults disk.old.disk) (D.faults disk.new.disk)) }
 {
     if place.class <= 7 {
-        read_small_value(alloc, disk, place)
+        read_small_value(alloc, disk, place, key)
     } else {
-        read_large_value(alloc, disk, place)
+        read_large_value(alloc, disk, place, key)
     }
 }
 
@@ -168,7 +198,8 @@ pub fn find_item<D: Disk, I: Index>(
     key: &[u8],
 ) -> Result<Option<Item>, StepFault>
     requires places { ArePlaces (finite.get (I.entries index.now)) }
-    ensures answer { IsTrue D.tells → HasItems (D.seen disk.old.disk) (finite.get (I.entries index.now))
+    ensures answer { IsTrue D.tells → HasItems (D.seen disk.old.disk)
+        (finite.get (I.entries index.now))
         → IfOk result (λ item. IsAnswer item key.now
         (map_of (D.seen disk.old.disk) (finite.get (I.entries index.now)) key.now)) }
     ensures reads { ReadsAtMost ⟦<D as Disk>⟧ (reads_for (finite.get (I.entries index.now) key.now))
@@ -177,7 +208,7 @@ pub fn find_item<D: Disk, I: Index>(
 {
     match index.find(key) {
         Some(entry) => {
-            let value = read_value(alloc, disk, entry.place)?;
+            let value = read_value(alloc, disk, entry.place, key)?;
             let key = Bytes::copy(alloc, key)?;
             Ok(Some(Item {
                 key,
@@ -197,7 +228,8 @@ pub fn next_item<D: Disk, I: Index>(
     key: &[u8],
 ) -> Result<Option<Item>, StepFault>
     requires places { ArePlaces (finite.get (I.entries index.now)) }
-    ensures next { IsTrue D.tells → HasItems (D.seen disk.old.disk) (finite.get (I.entries index.now))
+    ensures next { IsTrue D.tells → HasItems (D.seen disk.old.disk)
+        (finite.get (I.entries index.now))
         → IfOk result (λ item. IsNextItem (I.entries index.now) (D.seen disk.old.disk) key.now
         item) }
     ensures none { HasNoneFrom (I.entries index.now) key.now → disk.new ≡ disk.old }
@@ -207,7 +239,7 @@ pub fn next_item<D: Disk, I: Index>(
 {
     match index.next_at_or_after(key) {
         Some((key, entry)) => {
-            let value = read_value(alloc, disk, entry.place)?;
+            let value = read_value(alloc, disk, entry.place, key)?;
             let key = Bytes::copy(alloc, key)?;
             Ok(Some(Item {
                 key,

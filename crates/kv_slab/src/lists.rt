@@ -11,11 +11,7 @@ use kv_free::Stacks;
 use std::alloc::Global;
 
 /// A copy of the free slots and the ends.
-pub fn copy_rooms(
-    alloc: Global,
-    stacks: &[Stacks],
-    ends: &[u32],
-) -> Result<Vec<Room>, StepFault>
+pub fn copy_rooms(alloc: Global, stacks: &[Stacks], ends: &[u32]) -> Result<Vec<Room>, StepFault>
     requires { length stacks.now ≡ length ends.now }
     ensures ok { IfOk result (λ rooms. rooms.items ≡ rooms_of stacks.now ends.now) }
     ensures cause { IfErr result (λ fault. fault ≡ StepFault.NoMemory) }

@@ -1,4 +1,5 @@
-ghost use Rattle.std.specs.Prelude.{◌≡◌, ℕ, ◌+◌, ◌*◌, ◌^◌, ◌<◌, ◌≤◌, List, Option, Some, OnOk, IfOk, IfErr, IfSome};
+ghost use Rattle.std.specs.Prelude.{◌≡◌, ℕ, ◌+◌, ◌*◌, ◌^◌, ◌<◌, ◌≤◌, List, Option, Some, OnOk};
+ghost use Rattle.std.specs.Prelude.{IfOk, IfErr, IfSome};
 ghost use Rattle.std.specs.Prelude.{IsTrue, length};
 ghost use Rattle.std.specs.Option.{ForSome};
 ghost use Rattle.std.specs.List.{slice_get};
@@ -41,7 +42,8 @@ fn first_one<D: Disk>(
         (slot_at all_classes (over (D.seen disk.old.disk) pages.old.items))
         (slot_at all_classes (over (D.seen disk.old.disk) pages.new.items))) }
     ensures still { IsTrue D.tells → OnOk result (StillBeside to
-        (over (D.seen disk.old.disk) pages.old.items) (over (D.seen disk.old.disk) pages.new.items)) }
+        (over (D.seen disk.old.disk) pages.old.items) (over (D.seen disk.old.disk)
+        pages.new.items)) }
     ensures whole { IsTrue D.tells → OnOk result (IsWhole change.now (to_of to change.now.value)
         (over (D.seen disk.old.disk) pages.new.items)) }
     ensures floor { IsTrue D.tells → OnOk result ((bound : ℕ) → change.now.stamp ≤ bound

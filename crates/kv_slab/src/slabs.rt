@@ -1,4 +1,5 @@
-ghost use Rattle.std.specs.Prelude.{◌≡◌, ℕ, ◌+◌, ◌-◌, ◌*◌, ◌<◌, ◌≤◌, List, [], None, Some, IsTrue, IfOk, IfErr};
+ghost use Rattle.std.specs.Prelude.{◌≡◌, ℕ, ◌+◌, ◌-◌, ◌*◌, ◌<◌, ◌≤◌, List, [], None, Some, IsTrue};
+ghost use Rattle.std.specs.Prelude.{IfOk, IfErr};
 ghost use Rattle.std.specs.Prelude.{OnOk, OnErr, true, false, length, option_map};
 ghost use Rattle.std.specs.FinMap as finite;
 ghost use Rattle.kv_base.specs.Fault.{HasCause};
@@ -128,7 +129,8 @@ impl<D: Disk, I: Index> Slabs<D, I> {
         }
     }
 
-    /// Whether a write or a sync has failed. While none has, nothing is pending, and the image keeps
+    /// Whether a write or a sync has failed. While none has, nothing is pending, and the image
+    /// keeps
     /// the map.
     pub fn closed(&self) -> bool
         ensures value { result ≡ self.now.closed }

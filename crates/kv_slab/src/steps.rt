@@ -1,4 +1,5 @@
-ghost use Rattle.std.specs.Prelude.{◌≡◌, ℕ, ◌+◌, ◌*◌, ◌≤◌, List, IsTrue, IfOk, IfErr, OnOk, length, []};
+ghost use Rattle.std.specs.Prelude.{◌≡◌, ℕ, ◌+◌, ◌*◌, ◌≤◌, List, IsTrue, IfOk, IfErr, OnOk, length};
+ghost use Rattle.std.specs.Prelude.{[]};
 ghost use Rattle.std.specs.FinMap as finite;
 ghost use Rattle.kv_base.specs.Fault.{HasCause};
 ghost use Rattle.kv_base.specs.Crash.{LeavesOnly};
@@ -39,11 +40,13 @@ pub fn get_of<D: Disk, I: Index>(
     workers: u32,
     key: &[u8],
 ) -> Result<Option<Item>, StepFault>
-    requires opened { IsOpen D.tells (D.seen disk.old.disk) (D.leaves disk.old.disk (D.calls disk.old.disk))
+    requires opened { IsOpen D.tells (D.seen disk.old.disk) (D.leaves disk.old.disk
+        (D.calls disk.old.disk))
         (finite.get (I.entries index.now)) (rooms_of stacks.now ends.now) worker workers }
     ensures answer { IsTrue D.tells → IfOk result (λ item. IsAnswer item key.now
         (map_of (D.seen disk.old.disk) (finite.get (I.entries index.now)) key.now)) }
-    ensures opened { IsOpen D.tells (D.seen disk.new.disk) (D.leaves disk.new.disk (D.calls disk.new.disk))
+    ensures opened { IsOpen D.tells (D.seen disk.new.disk) (D.leaves disk.new.disk
+        (D.calls disk.new.disk))
         (finite.get (I.entries index.now)) (rooms_of stacks.now ends.now) worker workers }
     ensures reads { ReadsAtMost ⟦<D as Disk>⟧ (reads_for (finite.get (I.entries index.now) key.now))
         disk.old.disk disk.new.disk }
@@ -67,12 +70,14 @@ pub fn next_of<D: Disk, I: Index>(
     workers: u32,
     key: &[u8],
 ) -> Result<Option<Item>, StepFault>
-    requires opened { IsOpen D.tells (D.seen disk.old.disk) (D.leaves disk.old.disk (D.calls disk.old.disk))
+    requires opened { IsOpen D.tells (D.seen disk.old.disk) (D.leaves disk.old.disk
+        (D.calls disk.old.disk))
         (finite.get (I.entries index.now)) (rooms_of stacks.now ends.now) worker workers }
     ensures next { IsTrue D.tells → IfOk result (λ item. IsNextItem (I.entries index.now)
         (D.seen disk.old.disk) key.now item) }
     ensures none { HasNoneFrom (I.entries index.now) key.now → disk.new ≡ disk.old }
-    ensures opened { IsOpen D.tells (D.seen disk.new.disk) (D.leaves disk.new.disk (D.calls disk.new.disk))
+    ensures opened { IsOpen D.tells (D.seen disk.new.disk) (D.leaves disk.new.disk
+        (D.calls disk.new.disk))
         (finite.get (I.entries index.now)) (rooms_of stacks.now ends.now) worker workers }
     ensures reads { NextReads ⟦<D as Disk>⟧ (I.entries index.now) key.now disk.old.disk
         disk.new.disk }
@@ -97,7 +102,8 @@ pub fn plan_of<D: Disk, I: Index>(
     limit: u32,
     changes: &[Change],
 ) -> Result<Plan, StepFault>
-    requires opened { IsOpen D.tells (D.seen disk.old.disk) (D.leaves disk.old.disk (D.calls disk.old.disk))
+    requires opened { IsOpen D.tells (D.seen disk.old.disk) (D.leaves disk.old.disk
+        (D.calls disk.old.disk))
         (finite.get (I.entries index.old)) (rooms_of stacks.now ends.now) worker workers }
     requires sizes { (length stacks.now ≡ 12) × (length ends.now ≡ 12) }
     requires can { CanChange D.tells (D.seen disk.old.disk) (I.entries index.old) limit worker
@@ -105,7 +111,8 @@ pub fn plan_of<D: Disk, I: Index>(
     ensures planned { IfOk result (λ plan. IsPlanned D.tells (D.seen disk.new.disk)
         (I.entries index.new) (I.spare index.new) (rooms_of stacks.now ends.now) limit
         worker workers plan changes.now) }
-    ensures opened { IsOpen D.tells (D.seen disk.new.disk) (D.leaves disk.new.disk (D.calls disk.new.disk))
+    ensures opened { IsOpen D.tells (D.seen disk.new.disk) (D.leaves disk.new.disk
+        (D.calls disk.new.disk))
         (finite.get (I.entries index.new)) (rooms_of stacks.now ends.now) worker workers }
     ensures reads { ReadsAtMost ⟦<D as Disk>⟧ (3 * length changes.now) disk.old.disk disk.new.disk }
     ensures entries { I.entries index.new ≡ I.entries index.old }
@@ -132,10 +139,12 @@ pub fn apply_of<D: Disk, I: Index>(
         (D.leaves disk.old.disk (D.calls disk.old.disk)) (finite.get (I.entries index.old))
         (rooms_of stacks.old.items ends.old.items) worker workers }
     requires planned { (changes : List Changed) × IsPlanned D.tells (D.seen disk.old.disk)
-        (I.entries index.old) (I.spare index.old) (rooms_of stacks.old.items ends.old.items) limit worker
+        (I.entries index.old) (I.spare index.old) (rooms_of stacks.old.items ends.old.items) limit
+        worker
         workers plan changes }
     ensures any_moment { (changes : List Changed) → IsPlanned D.tells (D.seen disk.old.disk)
-        (I.entries index.old) (I.spare index.old) (rooms_of stacks.old.items ends.old.items) limit worker
+        (I.entries index.old) (I.spare index.old) (rooms_of stacks.old.items ends.old.items) limit
+        worker
         workers plan changes
         → LeavesOnly (D.calls disk.old.disk) (D.calls disk.new.disk) (D.leaves disk.old.disk)
         (D.leaves disk.new.disk) (OldOrNewMap (map_of (D.seen disk.old.disk)
@@ -143,15 +152,19 @@ pub fn apply_of<D: Disk, I: Index>(
     ensures of_worker { LeavesOnly (D.calls disk.old.disk) (D.calls disk.new.disk)
         (D.leaves disk.old.disk) (D.leaves disk.new.disk) (IsOfWorker worker workers) }
     ensures done { OnOk result ((changes : List Changed) → IsPlanned D.tells
-        (D.seen disk.old.disk) (I.entries index.old) (I.spare index.old) (rooms_of stacks.old.items ends.old.items) limit worker
+        (D.seen disk.old.disk) (I.entries index.old) (I.spare index.old)
+        (rooms_of stacks.old.items ends.old.items) limit worker
         workers plan changes → IsTrue D.tells → (k : List ℕ) → map_of (D.seen disk.new.disk)
         (finite.get (I.entries index.new)) k ≡ answer_after changes k (map_of
         (D.seen disk.old.disk) (finite.get (I.entries index.old)) k)) }
     ensures lists { OnOk result ((changes : List Changed) (start : Rooms) → IsPlanned D.tells
-        (D.seen disk.old.disk) (I.entries index.old) (I.spare index.old) (rooms_of stacks.old.items ends.old.items) limit worker
-        workers plan changes → IsTrue D.tells → AreRooms (rooms_of stacks.old.items ends.old.items) start
+        (D.seen disk.old.disk) (I.entries index.old) (I.spare index.old)
+        (rooms_of stacks.old.items ends.old.items) limit worker
+        workers plan changes → IsTrue D.tells → AreRooms (rooms_of stacks.old.items ends.old.items)
+        start
         → Stands (D.seen disk.old.disk) (finite.get (I.entries index.old)) start worker workers
-        → AreRooms (rooms_of stacks.new.items ends.new.items) (rooms_after (finite.get (I.entries index.old)) changes start)
+        → AreRooms (rooms_of stacks.new.items ends.new.items)
+        (rooms_after (finite.get (I.entries index.old)) changes start)
         × Stands (D.seen disk.new.disk) (finite.get (I.entries index.new))
         (rooms_after (finite.get (I.entries index.old)) changes start) worker workers) }
     ensures opened { OnOk result (IsOpen D.tells (D.seen disk.new.disk)
@@ -185,7 +198,8 @@ pub fn apply_of<D: Disk, I: Index>(
         → (length stacks.new.items ≡ 12) × (length ends.new.items ≡ 12) }
     ensures cause { HasCause (D.faults disk.old.disk) (D.faults disk.new.disk) result }
     ensures count { (changes : List Changed) → IsPlanned D.tells (D.seen disk.old.disk)
-        (I.entries index.old) (I.spare index.old) (rooms_of stacks.old.items ends.old.items) limit worker
+        (I.entries index.old) (I.spare index.old) (rooms_of stacks.old.items ends.old.items) limit
+        worker
         workers plan changes
         → D.calls disk.new.disk ≤ D.calls disk.old.disk + 17 * length changes + 2 }
 {
@@ -194,4 +208,3 @@ pub fn apply_of<D: Disk, I: Index>(
     let _limit = limit;
     carry(disk, index, stacks, ends, plan)
 }
-

@@ -1,4 +1,5 @@
-ghost use Rattle.std.specs.Prelude.{◌≡◌, ℕ, ◌+◌, ◌*◌, ◌<◌, ◌≤◌, ◌^◌, List, None, Some, IsTrue, IfOk, IfErr, OnOk};
+ghost use Rattle.std.specs.Prelude.{◌≡◌, ℕ, ◌+◌, ◌*◌, ◌<◌, ◌≤◌, ◌^◌, List, None, Some, IsTrue};
+ghost use Rattle.std.specs.Prelude.{IfOk, IfErr, OnOk};
 ghost use Rattle.std.specs.Prelude.{OnErr, length, []};
 ghost use Rattle.std.specs.FinMap as finite;
 ghost use Rattle.kv_base.specs.Fault.{HasCause};
@@ -7,13 +8,15 @@ ghost use Rattle.kv_model.specs.Layout.{all_classes};
 ghost use Rattle.kv_model.specs.Reading.{slot_at};
 ghost use Rattle.kv_slab.specs.declared.change.Change.{Change as Changed};
 ghost use Rattle.kv_slab.specs.Memory.{AreFilled, HaveLengths, rooms_of};
-ghost use Rattle.kv_slab.specs.Moves.{ArePlaces, AreDistinct, AllFit, AreAllMoves, AreUpTo, answer_after};
+ghost use Rattle.kv_slab.specs.Moves.{ArePlaces, AreDistinct, AllFit, AreAllMoves, AreUpTo};
+ghost use Rattle.kv_slab.specs.Moves.{answer_after};
 ghost use Rattle.kv_slab.specs.Floor.{HasFloorUpTo};
 ghost use Rattle.kv_slab.specs.Settled.{HasEntryAfter};
-ghost use Rattle.kv_slab.specs.Pages.{ArePages};
+ghost use Rattle.kv_slab.specs.Pages.{ArePages, IsOrder};
 ghost use Rattle.kv_disk.specs.Steps.{ReadsAtMost};
 ghost use Rattle.kv_slab.specs.Fault.{HasStepCause};
-ghost use Rattle.kv_slab.specs.Rooms.{Rooms, AreRooms, ArePlaced, AreLinked, rooms_after, needed, left_slots};
+ghost use Rattle.kv_slab.specs.Rooms.{Rooms, AreRooms, ArePlaced, AreLinked, rooms_after, needed};
+ghost use Rattle.kv_slab.specs.Rooms.{left_slots};
 ghost use Rattle.kv_slab.specs.Assigned.{AreEnds};
 ghost use Rattle.kv_slab.specs.Plans.{IsPlanned, PlannedFor};
 ghost use Rattle.kv_slab.specs.View.{IsOpen, IsOfWorker, OldOrNewMap, map_of};
@@ -24,9 +27,10 @@ use crate::change::Change;
 use crate::fault::{StepFault, WriteFault};
 use crate::leave::leave;
 use crate::lists::{copy_rooms, split_rooms};
+use crate::order::order_of;
+use crate::parts::{EndList, StackList};
 use crate::plan::Plan;
 use crate::planning::{plan_first, plan_second};
-use crate::parts::{EndList, StackList};
 use crate::rounds::carry_out;
 use crate::settle::settle;
 use kv_cache::Cached;
@@ -70,6 +74,8 @@ pub fn make_plan<D: Disk, I: Index>(
         + length plan.moves.items < 2 ^ 32) }
     ensures first { IfOk result (λ plan. ArePages plan.first.items) }
     ensures second { IfOk result (λ plan. ArePages plan.second.items) }
+    ensures orders { IfOk result (λ plan. IsOrder plan.first.items plan.first_order.items
+        × IsOrder plan.second.items plan.second_order.items) }
     ensures counts { IfOk result (λ plan. (length plan.first.items ≤ 16 * length changes.now)
         × (length plan.second.items ≤ length changes.now)) }
     ensures sizes { IfOk result (λ plan. (length plan.stacks.items ≡ 12)
@@ -97,11 +103,15 @@ pub fn make_plan<D: Disk, I: Index>(
     let links = leave(alloc, &mut now, &moves)?;
     let first = plan_first(alloc, disk, changes, &moves)?;
     let second = plan_second(alloc, disk, &first, &moves, &links)?;
+    let first_order = order_of(alloc, &first)?;
+    let second_order = order_of(alloc, &second)?;
     let (stacks, ends) = split_rooms(alloc, &now)?;
     Ok(Plan {
         moves,
         first,
+        first_order,
         second,
+        second_order,
         stacks,
         ends,
     })
@@ -148,7 +158,8 @@ pub fn carry<D: Disk, I: Index>(
         (rooms_of stacks.old.items ends.old.items) limit worker workers plan changes
         → IsTrue D.tells → AreRooms (rooms_of stacks.old.items ends.old.items) start
         → Stands (D.seen disk.old.disk) (finite.get (I.entries index.old)) start worker workers
-        → AreRooms (rooms_of stacks.new.items ends.new.items) (rooms_after (finite.get (I.entries index.old)) changes start)
+        → AreRooms (rooms_of stacks.new.items ends.new.items)
+        (rooms_after (finite.get (I.entries index.old)) changes start)
         × Stands (D.seen disk.new.disk) (finite.get (I.entries index.new))
         (rooms_after (finite.get (I.entries index.old)) changes start) worker workers) }
     ensures opened { OnOk result ((limit worker workers : ℕ) (changes : List Changed)
@@ -157,7 +168,8 @@ pub fn carry<D: Disk, I: Index>(
         → IsPlanned D.tells (D.seen disk.old.disk) (I.entries index.old) (I.spare index.old)
         (rooms_of stacks.old.items ends.old.items) limit worker workers plan changes
         → IsOpen D.tells (D.seen disk.new.disk) (D.leaves disk.new.disk (D.calls disk.new.disk))
-        (finite.get (I.entries index.new)) (rooms_of stacks.new.items ends.new.items) worker workers) }
+        (finite.get (I.entries index.new)) (rooms_of stacks.new.items ends.new.items) worker
+        workers) }
     ensures entries { OnOk result ((limit worker workers : ℕ) (changes : List Changed)
         → IsPlanned D.tells (D.seen disk.old.disk) (I.entries index.old) (I.spare index.old)
         (rooms_of stacks.old.items ends.old.items) limit worker workers plan changes
@@ -194,11 +206,13 @@ pub fn carry<D: Disk, I: Index>(
     let Plan {
         moves,
         first,
+        first_order,
         second,
+        second_order,
         stacks: now_stacks,
         ends: now_ends,
     } = plan;
-    match carry_out(disk, &first, &second) {
+    match carry_out(disk, &first, &first_order, &second, &second_order) {
         Ok(()) => {
             *stacks = now_stacks;
             *ends = now_ends;

@@ -1,5 +1,7 @@
-ghost use Rattle.std.specs.Prelude.{◌≡◌, ℕ, ◌+◌, ◌-◌, ◌^◌, ◌<◌, ◌≤◌, ◌↔◌, ◌⊎◌, ◌∷◌, Option, List, None, Some};
-ghost use Rattle.std.specs.Prelude.{IsTrue, IfOk, IfErr, IfSome, IsSome, OnOk, MatchOption, length, take, drop};
+ghost use Rattle.std.specs.Prelude.{◌≡◌, ℕ, ◌+◌, ◌-◌, ◌^◌, ◌<◌, ◌≤◌, ◌↔◌, ◌⊎◌, ◌∷◌, Option, List};
+ghost use Rattle.std.specs.Prelude.{None, Some};
+ghost use Rattle.std.specs.Prelude.{IsTrue, IfOk, IfErr, IfSome, IsSome, OnOk, MatchOption, length};
+ghost use Rattle.std.specs.Prelude.{take, drop};
 ghost use Rattle.std.specs.List.{slice_get};
 ghost use Rattle.kv_model.specs.Layout.{all_classes, slot_size};
 ghost use Rattle.kv_model.specs.Slots.{Tombstone, read_small, read_large};
@@ -8,7 +10,8 @@ ghost use Rattle.kv_index.specs.declared.entry.Entry.{Entry as Entered};
 ghost use Rattle.kv_slab.specs.Moves.{IsSlabPlace};
 ghost use Rattle.kv_disk.specs.Steps.{ReadsAtMost};
 ghost use Rattle.kv_slab.specs.Fault.{HasStepCause};
-ghost use Rattle.kv_slab.specs.Rooms.{Free, Rooms, IsRoom, AreRooms, AreLinked, link_at, slot_class};
+ghost use Rattle.kv_slab.specs.Rooms.{Free, Rooms, IsRoom, AreRooms, AreLinked, link_at};
+ghost use Rattle.kv_slab.specs.Rooms.{slot_class};
 ghost use Rattle.kv_slab.specs.Assigned.{HasTaken, Takes, AreEnds};
 ghost use Rattle.kv_slab.specs.Memory.{HasLength, HaveLengths, new_in};
 
@@ -89,11 +92,7 @@ fn link_to_take<D: Disk>(
 }
 
 /// Takes the last free slot of the class, and where there is none the slot at its end.
-fn take_slot<D: Disk>(
-    disk: &mut Cached<D>,
-    class: u8,
-    room: &mut Room,
-) -> Result<u32, StepFault>
+fn take_slot<D: Disk>(disk: &mut Cached<D>, class: u8, room: &mut Room) -> Result<u32, StepFault>
     requires class { (1 ≤ class) × (class ≤ 11) }
     requires end { room.old.end ≤ 2 ^ 24 }
     ensures reads { ReadsAtMost ⟦<D as Disk>⟧ 1 disk.old.disk disk.new.disk }

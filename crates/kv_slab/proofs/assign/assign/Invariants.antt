@@ -17,10 +17,15 @@ invariant-loop-change g l = record {
   reads : ReadsAtMost g.D.Disk l.change-index l.fn.disk.disk l.disk.disk;
   ends : AreEnds l.rooms.items;
   count : length l.moves.items ≡ l.change-index;
-  counted : HaveLengths (needed (finite.get (g.I.Index.entries l.index)) (take l.change-index l.changes)) (λ _. 0) l.fn.rooms.items l.rooms.items;
-  lefts : (i : ℕ) (c : Change) (m : Move) → IsPair l.changes l.moves.items i c m → m.left ≡ left_by (finite.get (g.I.Index.entries l.index)) c;
-  each : (i : ℕ) (c : Change) (m : Move) → IsPair l.changes l.moves.items i c m → IsMove (finite.get (g.I.Index.entries l.index)) c m;
-  assigned : IsTrue g.D.Disk.tells → (start : Rooms) → AreRooms l.fn.rooms.items start → ArePlaced (finite.get (g.I.Index.entries l.index)) start
+  counted : HaveLengths (needed (finite.get (g.I.Index.entries l.index))
+      (take l.change-index l.changes)) (λ _. 0) l.fn.rooms.items l.rooms.items;
+  lefts : (i : ℕ) (c : Change) (m : Move) → IsPair l.changes l.moves.items i c m → m.left
+      ≡ left_by (finite.get (g.I.Index.entries l.index)) c;
+  each : (i : ℕ) (c : Change) (m : Move) → IsPair l.changes l.moves.items i c m
+      → IsMove (finite.get (g.I.Index.entries l.index)) c m;
+  assigned : IsTrue g.D.Disk.tells → (start : Rooms) → AreRooms l.fn.rooms.items start
+      → ArePlaced (finite.get (g.I.Index.entries l.index)) start
       → AreLinked (slot_at all_classes (g.D.Disk.seen l.fn.disk.disk)) start
-      → SoFar (finite.get (g.I.Index.entries l.index)) (slot_at all_classes (g.D.Disk.seen l.fn.disk.disk)) l.rooms.items start l.changes l.moves.items;
+      → SoFar (finite.get (g.I.Index.entries l.index)) (slot_at all_classes
+      (g.D.Disk.seen l.fn.disk.disk)) l.rooms.items start l.changes l.moves.items;
 }

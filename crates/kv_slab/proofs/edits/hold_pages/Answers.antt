@@ -15,10 +15,14 @@ loop-content-preserved c =
     record {
       set = λ image.
           let base = over image c.args.pages.now.items in
-          let size : length (take n contents) ≡ n = length-take-le n contents (omega (arith, below)) in
+          let size : length (take n contents) ≡ n = length-take-le n contents (omega (arith, below))
+          in
           c.in_ok-hold_whole.ensures.set image
-          ∙ ap (λ (im : Image). with_page im c.args.file c.loop-content.page content) (c.loop-content.invariant.set image)
-          ∙ ap (λ (k : ℕ). with_page (with_pages base c.args.file c.args.first (take n contents)) c.args.file k content) (c.loop-content.invariant.page ∙ ap (λ k. c.args.first + k) (sym size))
+          ∙ ap (λ (im : Image). with_page im c.args.file c.loop-content.page content)
+          (c.loop-content.invariant.set image)
+          ∙ ap (λ (k : ℕ). with_page (with_pages base c.args.file c.args.first (take n contents))
+          c.args.file k content) (c.loop-content.invariant.page
+          ∙ ap (λ k. c.args.first + k) (sym size))
           ∙ sym (with_pages-more base c.args.file c.args.first (take n contents) content)
           ∙ ap (with_pages base c.args.file c.args.first) (sym (take_more contents n [] below));
       page = omega (arith, c.loop-content.invariant.page);
@@ -29,4 +33,5 @@ loop-content-preserved c =
 pub returns-clause-set : goal.returns-clause-set
 returns-clause-set c = λ image.
     c.loop-content.invariant.set image
-    ∙ ap (with_pages (over image c.args.pages.now.items) c.args.file c.args.first) (take_all c.loop-content.content-index c.args.contents.now c.loop-content-test.false)
+    ∙ ap (with_pages (over image c.args.pages.now.items) c.args.file c.args.first)
+    (take_all c.loop-content.content-index c.args.contents.now c.loop-content-test.false)

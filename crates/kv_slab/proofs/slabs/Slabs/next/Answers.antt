@@ -10,13 +10,22 @@ use Rattle.kv_slab.proofs.slabs.Slabs.next.Goals as goal
 
 pub returns-clause-next : goal.returns-clause-next
 returns-clause-next g c =
-    subst (λ v. IsTrue g.D.Disk.tells → IfOk c.next_of.result (λ item. IsNextItem (g.I.Index.entries v.index) (g.D.Disk.seen v.disk.disk) c.args.key.now item))
+    subst (λ v. IsTrue g.D.Disk.tells → IfOk c.next_of.result
+    (λ item. IsNextItem (g.I.Index.entries v.index) (g.D.Disk.seen v.disk.disk) c.args.key.now
+    item))
     c.self.view_is c.next_of.ensures.next
 
 pub returns-clause-plan : goal.returns-clause-plan
 returns-clause-plan g c =
     let s = c.self.inside in
-    subst (λ v. (changes : List Change) → HasPlan g.D.Disk g.I.Index v changes → IsKeptPlan g.D.Disk.tells (g.D.Disk.seen c.next_of.new.disk.disk) (g.I.Index.entries s.index) (g.I.Index.spare s.index)
-    (rooms_of s.stacks.items s.ends.items) s.limits.slots s.worker s.workers s.plan changes) c.self.view_is
-    (λ changes planned. plan_stays g.D.Disk.tells (g.D.Disk.seen s.disk.disk) (g.D.Disk.seen c.next_of.new.disk.disk) (g.I.Index.entries s.index) (g.I.Index.spare s.index)
-    (rooms_of s.stacks.items s.ends.items) s.limits.slots s.worker s.workers s.plan changes (next_seen g.D.Disk (g.I.Index.entries c.self.inside.index) c.args.key.now c.self.inside.disk.disk c.next_of.new.disk.disk c.next_of.ensures.reads) planned)
+    subst (λ v. (changes : List Change) → HasPlan g.D.Disk g.I.Index v changes
+    → IsKeptPlan g.D.Disk.tells (g.D.Disk.seen c.next_of.new.disk.disk)
+    (g.I.Index.entries s.index) (g.I.Index.spare s.index)
+    (rooms_of s.stacks.items s.ends.items) s.limits.slots s.worker s.workers s.plan changes)
+    c.self.view_is
+    (λ changes planned. plan_stays g.D.Disk.tells (g.D.Disk.seen s.disk.disk)
+    (g.D.Disk.seen c.next_of.new.disk.disk) (g.I.Index.entries s.index)
+    (g.I.Index.spare s.index)
+    (rooms_of s.stacks.items s.ends.items) s.limits.slots s.worker s.workers s.plan changes
+    (next_seen g.D.Disk (g.I.Index.entries c.self.inside.index) c.args.key.now
+    c.self.inside.disk.disk c.next_of.new.disk.disk c.next_of.ensures.reads) planned)

@@ -353,7 +353,8 @@ module _ (index : Index) (steps : Steps) (old : Reading) (h : Holds index old)
           (first_stays mid in_first k e at) in
           ⊎_elim
           (λ (same : now e.place.class e.place.slot ≡ mid e.place.class e.place.slot). same ∙ was)
-          (λ (left : IsLeft steps e.place.class e.place.slot (now e.place.class e.place.slot)). absurd
+          (λ (left : IsLeft steps e.place.class e.place.slot (now e.place.class e.place.slot)).
+          absurd
           (let key = left_key (now e.place.class e.place.slot) k e at left in let has = left.has
           in cc))
           (in_second e.place.class e.place.slot)
@@ -398,7 +399,8 @@ module _ (index : Index) (steps : Steps) (old : Reading) (h : Holds index old)
           (first_stays mid in_first k e at)
 
       -- a deleted key: its item, or none
-      second_out : (now : Reading) → InSecond steps mid now → (k : List ℕ) (st : Step) (o : Option At)
+      second_out : (now : Reading) → InSecond steps mid now
+          → (k : List ℕ) (st : Step) (o : Option At)
           → steps k ≡ Some st → st.to ≡ None → index k ≡ o
           → GivesItem now k (answer_of old (index k)) ⊎ GivesItem now k None
       second_out now in_second k st None has out none = inr (λ copy found.
@@ -426,15 +428,18 @@ module _ (index : Index) (steps : Steps) (old : Reading) (h : Holds index old)
           item_not (now e.place.class e.place.slot) copy.stamp k copy.value there left.none))
           (in_second e.place.class e.place.slot)
 
-      second_to : (now : Reading) → InSecond steps mid now → (k : List ℕ) (st : Step) (o : Option To)
+      second_to : (now : Reading) → InSecond steps mid now
+          → (k : List ℕ) (st : Step) (o : Option To)
           → steps k ≡ Some st → st.to ≡ o
           → GivesItem now k (answer_of old (index k)) ⊎ GivesItem now k (written_of st.stamp o)
-      second_to now in_second k st None has out = second_out now in_second k st (index k) has out refl
+      second_to now in_second k st None has out = second_out now in_second k st (index k) has out
+          refl
       second_to now in_second k st (Some t) has goes =
           inr (first_new mid in_first k st t has goes (done k st t has goes) now
           (second_found now in_second k) (second_new now in_second k st t has goes))
 
-      second_one : (now : Reading) → InSecond steps mid now → (k : List ℕ) (o : Option Step) → steps k
+      second_one : (now : Reading) → InSecond steps mid now → (k : List ℕ) (o : Option Step)
+          → steps k
           ≡ o
           → GivesItem now k (answer_of old (index k)) ⊎ GivesItem now k
           (after_step o (answer_of old (index k)))
@@ -455,7 +460,8 @@ module _ (index : Index) (steps : Steps) (old : Reading) (h : Holds index old)
 
       module _ (now : Reading) (in_second : InSecond steps mid now) (gone : SecondDone steps now)
         where
-          after_put : (k : List ℕ) (st : Step) (o : Option To) (e : At) → steps k ≡ Some st → st.to ≡ o
+          after_put : (k : List ℕ) (st : Step) (o : Option To) (e : At) → steps k ≡ Some st → st.to
+              ≡ o
               → put_at st.stamp o ≡ Some e → (value : List ℕ) × (now e.place.class e.place.slot
               ≡ Item e.stamp k value)
           after_put k st None e has goes at = absurd (cc)
@@ -492,7 +498,8 @@ module _ (index : Index) (steps : Steps) (old : Reading) (h : Holds index old)
           still_there k st (Some u) c s t v has goes at is =
               ⊎_elim
               (λ (one : IsPlace u.class u.slot c s).
-              let new : now u.class u.slot ≡ Item st.stamp k u.value = second_new now in_second k st u
+              let new : now u.class u.slot ≡ Item st.stamp k u.value = second_new now in_second k st
+              u
               has goes in
               let c1 = one.0 in
               let s1 = one.1 in
@@ -512,7 +519,8 @@ module _ (index : Index) (steps : Steps) (old : Reading) (h : Holds index old)
               }))))
               (one_place u.class u.slot c s)
 
-          after_old : (k : List ℕ) (o : Option Step) (c s t : ℕ) (v : List ℕ) → steps k ≡ o → index k
+          after_old : (k : List ℕ) (o : Option Step) (c s t : ℕ) (v : List ℕ) → steps k ≡ o
+              → index k
               ≡ Some (entry c s t) → now c s ≡ Item t k v → moved o (index k) ≡ Some (entry c s t)
           after_old k None c s t v none at is = at
           after_old k (Some st) c s t v has at is = still_there k st st.to c s t v has refl at is
@@ -522,7 +530,8 @@ module _ (index : Index) (steps : Steps) (old : Reading) (h : Holds index old)
           after_only c s t k v is =
               let copy : Copy = record { class = c; slot = s; stamp = t; value = v } in
               ⊎_elim
-              (λ (was : IsItemOf old k copy). after_old k (steps k) c s t v refl (h.only c s t k v was)
+              (λ (was : IsItemOf old k copy). after_old k (steps k) c s t v refl (h.only c s t k v
+              was)
               is)
               (λ (new : (st : Step) × (u : To) × (steps k ≡ Some st) × (st.to ≡ Some u)
               × IsNewest k st.stamp u copy × (v ≡ u.value)).
@@ -538,9 +547,14 @@ module _ (index : Index) (steps : Steps) (old : Reading) (h : Holds index old)
 
           -- After both rounds the index with the steps has each item.
           pub holds_after : Holds (λ k. moved (steps k) (index k)) now
-          holds_after = record { each = λ k e at. after_each k (steps k) e refl at; only = after_only }
+          holds_after = record {
+            each = λ k e at. after_each k (steps k) e refl at;
+            only =
+                after_only;
+          }
 
-          answer_none : (k : List ℕ) (o : Option At) → index k ≡ o → steps k ≡ None → answer_of now o
+          answer_none : (k : List ℕ) (o : Option At) → index k ≡ o → steps k ≡ None
+              → answer_of now o
               ≡ answer_of old o
           answer_none k None at none = refl
           answer_none k (Some e) at none = ap item_of (second_none now in_second k none e at)
@@ -550,7 +564,8 @@ module _ (index : Index) (steps : Steps) (old : Reading) (h : Holds index old)
           answer_put k st None has goes = refl
           answer_put k st (Some t) has goes = ap item_of (second_new now in_second k st t has goes)
 
-          answer_one : (k : List ℕ) (o : Option Step) → steps k ≡ o → answer_of now (moved o (index k))
+          answer_one : (k : List ℕ) (o : Option Step) → steps k ≡ o
+              → answer_of now (moved o (index k))
               ≡ after_step o (answer_of old (index k))
           answer_one k None none = answer_none k (index k) refl none
           answer_one k (Some st) has = answer_put k st st.to has refl

@@ -116,3 +116,17 @@ abbrev pub HasRooms : {D I : Type 0} → disks.Ghosts D → indexes.Ghosts I →
 HasRooms d i store rooms = IsTrue d.tells → AreRooms store.rooms rooms
     × Stands (d.seen store.disk.disk) (finite.get (i.entries store.index)) rooms store.worker
     store.workers
+
+-- on every disk: the item has the key and its entry's stamp, and there is one exactly where there is
+-- an entry
+abbrev pub IsEntryItem : Option ItemOf → List ℕ → Option Entry → Type 0
+IsEntryItem None key None = Unit {0}
+IsEntryItem None key (Some e) = ⊥
+IsEntryItem (Some item) key None = ⊥
+IsEntryItem (Some item) key (Some e) = (item.key ≡ key) × (item.stamp ≡ e.stamp)
+
+-- on every disk: the item has the least key at or after the given one, and its entry's stamp
+abbrev pub IsNextEntry : Entries → List ℕ → Option ItemOf → Type 0
+IsNextEntry entries low None = HasNoneFrom entries low
+IsNextEntry entries low (Some item) = (e : Entry) × IsNext entries low item.key e
+    × (item.stamp ≡ e.stamp)

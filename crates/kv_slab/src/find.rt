@@ -10,7 +10,8 @@ ghost use Rattle.kv_disk.specs.Steps.{ReadsAtMost};
 ghost use Rattle.kv_slab.specs.Fault.{HasStepCause};
 ghost use Rattle.kv_index.specs.Entries.{HasNoneFrom};
 ghost use Rattle.kv_slab.specs.Counts.{pages_of_class, reads_for, NextReads};
-ghost use Rattle.kv_slab.specs.View.{HasItems, IsAnswer, IsNextItem, map_of};
+ghost use Rattle.kv_slab.specs.View.{HasItems, IsAnswer, IsNextItem, IsEntryItem, IsNextEntry};
+ghost use Rattle.kv_slab.specs.View.{map_of};
 
 use crate::change::Item;
 use crate::edits::place_spot;
@@ -202,6 +203,8 @@ pub fn find_item<D: Disk, I: Index>(
         (finite.get (I.entries index.now))
         → IfOk result (λ item. IsAnswer item key.now
         (map_of (D.seen disk.old.disk) (finite.get (I.entries index.now)) key.now)) }
+    ensures entry { IfOk result (λ item. IsEntryItem item key.now
+        (finite.get (I.entries index.now) key.now)) }
     ensures reads { ReadsAtMost ⟦<D as Disk>⟧ (reads_for (finite.get (I.entries index.now) key.now))
         disk.old.disk disk.new.disk }
     ensures cause { IfErr result (HasStepCause (D.faults disk.old.disk) (D.faults disk.new.disk)) }
@@ -232,6 +235,7 @@ pub fn next_item<D: Disk, I: Index>(
         (finite.get (I.entries index.now))
         → IfOk result (λ item. IsNextItem (I.entries index.now) (D.seen disk.old.disk) key.now
         item) }
+    ensures entry { IfOk result (λ item. IsNextEntry (I.entries index.now) key.now item) }
     ensures none { HasNoneFrom (I.entries index.now) key.now → disk.new ≡ disk.old }
     ensures reads { NextReads ⟦<D as Disk>⟧ (I.entries index.now) key.now disk.old.disk
         disk.new.disk }

@@ -18,6 +18,7 @@ ghost use Rattle.kv_slab.specs.Rooms.{Rooms, AreRooms, rooms_after, needed, left
 ghost use Rattle.kv_slab.specs.Counts.{reads_for, NextReads};
 ghost use Rattle.kv_slab.specs.Plans.{HasPlan, MayPlan};
 ghost use Rattle.kv_slab.specs.View.{IsOpen, IsOfWorker, IsAnswer, IsNextItem, HasRooms};
+ghost use Rattle.kv_slab.specs.View.{IsEntryItem, IsNextEntry};
 ghost use Rattle.kv_slab.specs.View.{OldOrNewMap, KeepsMap, Stands, store_map};
 
 use crate::change::{Change, Item};
@@ -173,6 +174,8 @@ impl<D: Disk, I: Index> Slabs<D, I> {
         requires { self.old.closed ≡ false }
         ensures answer { IsTrue D.tells → IfOk result (λ item. IsAnswer item key.now
             (store_map ⟦<D as Disk>⟧ ⟦<I as Index>⟧ self.old key.now)) }
+        ensures entry { IfOk result (λ item. IsEntryItem item key.now
+            (finite.get (I.entries self.old.index) key.now)) }
         ensures reads { ReadsAtMost ⟦<D as Disk>⟧
             (reads_for (finite.get (I.entries self.old.index) key.now))
             self.old.disk.disk self.new.disk.disk }
@@ -192,6 +195,8 @@ impl<D: Disk, I: Index> Slabs<D, I> {
         requires { self.old.closed ≡ false }
         ensures next { IsTrue D.tells → IfOk result (λ item. IsNextItem
             (I.entries self.old.index) (D.seen self.old.disk.disk) key.now item) }
+        ensures entry { IfOk result (λ item. IsNextEntry (I.entries self.old.index) key.now
+            item) }
         ensures none { HasNoneFrom (I.entries self.old.index) key.now → self.new ≡ self.old }
         ensures reads { NextReads ⟦<D as Disk>⟧ (I.entries self.old.index) key.now
             self.old.disk.disk self.new.disk.disk }

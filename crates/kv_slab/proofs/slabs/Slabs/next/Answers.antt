@@ -1,5 +1,6 @@
 -- The store is seen as what it has inside.
 use Rattle.std.proofs.Common.{◌∙◌, ap, IsTrue, IfOk, subst}
+use Rattle.kv_slab.specs.Counts.{NextReads}
 use Rattle.kv_slab.specs.View.{IsNextItem}
 use Rattle.std.proofs.Common.{List}
 use Rattle.kv_slab.specs.declared.change.Change.{Change}
@@ -31,3 +32,8 @@ returns-clause-plan g c =
     (rooms_of s.stacks.items s.ends.items) s.limits.slots s.worker s.workers s.plan changes
     (next_seen g.D.Disk (g.I.Index.entries c.self.inside.index) c.args.key.now
     c.self.inside.disk.disk c.next_item.new.disk.disk c.next_item.ensures.reads) planned)
+
+pub returns-clause-reads : goal.returns-clause-reads
+returns-clause-reads g c =
+    subst (λ v. NextReads g.D.Disk (g.I.Index.entries v.index) c.args.key.now v.disk.disk
+    c.next_item.new.disk.disk) c.self.view_is c.next_item.ensures.reads

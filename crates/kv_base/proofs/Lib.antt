@@ -1,3 +1,4 @@
 pub mod StreamLemmas
+pub mod PieceLemmas
 pub mod CrashLemmas
 pub mod ImageLemmas

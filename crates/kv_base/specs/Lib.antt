@@ -4,6 +4,7 @@ pub mod Reserved
 pub mod Partition
 pub mod Limits
 pub mod Stream
+pub mod Pieces
 pub mod Memory
 pub mod Image
 pub mod Crash

@@ -1,9 +1,11 @@
 ghost use Rattle.std.specs.Prelude.{◌≡◌, ℕ, ◌<◌, ◌≤◌, List, [], Option, None, Ok, take, length};
 ghost use Rattle.std.specs.Prelude.{IfOk, OnErr};
-ghost use Rattle.std.specs.Io.KnownBytes.{ReadConsumes, WriteAppends};
+ghost use Rattle.std.specs.Io.KnownBytes.{ReadConsumes, WriteAppends, Appends};
 ghost use Rattle.kv_base.specs.Fault.{HasCause, Counted};
 ghost use Rattle.kv_base.specs.Stream.{Stream, Passes, IsSpent, Takes};
+ghost use Rattle.kv_base.specs.Pieces.{AreEnds, TakesPieces, AppendsPieces, CountedPieces};
 
+use crate::pieces::whole_pieces;
 use crate::{Failed, Sink, Source};
 use std::io::{Read, Write};
 use std::marker::Model;
@@ -61,9 +63,9 @@ impl<R: Read> Source for ReaderSource<R> {
     }
 }
 
-/// A sink over any writer of std. It makes one call of the writer for each of its own and keeps no
-/// byte back. It counts each error as a fault, and so a writer that takes 0 bytes. It tells no
-/// bytes.
+/// A sink over any writer of std. It makes one call of the writer for each of its own, also for
+/// many pieces, where more follow only for what a short write left. It keeps no byte back. It
+/// counts each error as a fault, and so a writer that takes 0 bytes. It tells no bytes.
 #[derive(Drop)]
 pub struct WriterSink<W: Write> {
     writer: W,
@@ -85,6 +87,42 @@ impl<W: Write> WriterSink<W> {
     {
         WriterSink { writer, faults: 0 }
     }
+
+    // One call of the writer.
+    fn write_once(&mut self, bytes: &[u8]) -> Result<usize, Failed>
+        requires { 0 < length bytes.now }
+        ensures bound { IfOk result (λ n. (0 < n) × (n ≤ length bytes.now)) }
+        ensures known { WriteAppends (W.contents self.old.inner) (W.contents self.new.inner)
+            result bytes.now }
+        ensures cause { HasCause self.old.faults self.new.faults result }
+        ensures counted { Counted self.old.faults self.new.faults result }
+    {
+        match self.writer.write(bytes) {
+            Ok(n) if n > 0 => Ok(n),
+            _ => {
+                self.faults = self.faults.saturating_add(1);
+                Err(Failed)
+            }
+        }
+    }
+
+    // One call of the writer, and more only for what a short write left, up to a fault. It answers
+    // how many bytes were taken.
+    fn write_all(&mut self, bytes: &[u8]) -> usize
+        ensures bound { result ≤ length bytes.now }
+        ensures known { Appends (W.contents self.old.inner) (W.contents self.new.inner)
+            (take result bytes.now) }
+        ensures counted { CountedPieces self.old.faults self.new.faults result (length bytes.now) }
+    {
+        let mut sent = 0;
+        while sent < bytes.len() {
+            match self.write_once(&bytes[sent..]) {
+                Ok(n) => sent += n,
+                Err(Failed) => return sent,
+            }
+        }
+        sent
+    }
 }
 
 impl<W: Write> Sink for WriterSink<W> {
@@ -104,12 +142,20 @@ impl<W: Write> Sink for WriterSink<W> {
             result bytes.now }
         ensures counted { Counted self.old.faults self.new.faults result }
     {
-        match self.writer.write(bytes) {
-            Ok(n) if n > 0 => Ok(n),
-            _ => {
-                self.faults = self.faults.saturating_add(1);
-                Err(Failed)
-            }
-        }
+        self.write_once(bytes)
+    }
+
+    fn write_pieces(&mut self, bytes: &[u8], ends: &[usize]) -> usize
+        requires { AreEnds 0 ends.now (length bytes.now) }
+        ensures some { result ≤ length ends.now }
+        ensures taken { TakesPieces None None bytes.now ends.now result }
+        ensures counted { CountedPieces self.old.faults self.new.faults result (length ends.now) }
+
+        // what the writer tells
+        ensures known { AppendsPieces (W.contents self.old.inner) (W.contents self.new.inner)
+            bytes.now ends.now result }
+    {
+        let sent = self.write_all(bytes);
+        whole_pieces(ends, sent)
     }
 }

@@ -10,6 +10,7 @@ mod cursor;
 mod fault;
 mod limits;
 mod partition;
+mod pieces;
 mod place;
 mod reply;
 mod request;

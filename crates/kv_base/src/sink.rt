@@ -1,6 +1,7 @@
 ghost use Rattle.std.specs.Prelude.{ℕ, ◌<◌, ◌≤◌, List, [], Option, take, length, IfOk, OnErr};
 ghost use Rattle.kv_base.specs.Fault.{HasCause, Counted};
 ghost use Rattle.kv_base.specs.Stream.{Takes};
+ghost use Rattle.kv_base.specs.Pieces.{AreEnds, TakesPieces, CountedPieces};
 
 use crate::Failed;
 
@@ -21,4 +22,30 @@ pub trait Sink {
         ensures err { OnErr result (Takes (held self.old) (held self.new) []) }
         ensures cause { HasCause (faults self.old) (faults self.new) result }
         ensures counted { Counted (faults self.old) (faults self.new) result };
+
+    /// Appends pieces that stand one behind the other in the bytes, each ending where `ends` says:
+    /// as `write` for one piece after the other, up to the first that isn't taken whole after a
+    /// fault. It answers how many were taken whole. Of the next one, where there is one, a part may
+    /// have gone that isn't all of it.
+    #[tactic(auto, using(crate::proofs::PieceLemmas::ends_in, crate::proofs::PieceLemmas::is_below))]
+    fn write_pieces(&mut self, bytes: &[u8], ends: &[usize]) -> usize
+        requires { AreEnds 0 ends.now (length bytes.now) }
+        ensures some { result ≤ length ends.now }
+        ensures taken { TakesPieces (held self.old) (held self.new) bytes.now ends.now result }
+        ensures counted { CountedPieces (faults self.old) (faults self.new) result
+            (length ends.now) }
+    {
+        let mut sent = 0;
+        let mut whole = 0;
+        while whole < ends.len() {
+            match self.write(&bytes[sent..ends[whole]]) {
+                Ok(n) => sent += n,
+                Err(Failed) => return whole,
+            }
+            if sent == ends[whole] {
+                whole += 1;
+            }
+        }
+        whole
+    }
 }

@@ -2,7 +2,7 @@ ghost use Rattle.std.specs.Prelude.{◌≡◌, ℕ, ◌<◌, ◌≤◌, List, []
 ghost use Rattle.std.specs.Prelude.{OnErr};
 ghost use Rattle.kv_base.specs.Fault.{HasCause, Counted};
 ghost use Rattle.kv_base.specs.Stream.{Takes};
-ghost use Rattle.kv_base.specs.Memory.{Tray, Writes};
+ghost use Rattle.kv_base.specs.Memory.{MemorySink, Writes};
 
 use crate::{Calls, Failed, NoMemory, Sink};
 use std::alloc::Global;
@@ -21,9 +21,9 @@ pub struct MemSink {
 
 impl Model for MemSink {
     ghost use Rattle.std.specs.Prelude.{◌+◌, ◌≤◌, vec_len, vec_capacity};
-    ghost use Rattle.kv_base.specs.Memory.{Tray};
+    ghost use Rattle.kv_base.specs.Memory.{MemorySink};
 
-    ghost Value = { Tray };
+    ghost Value = { MemorySink };
 
     ghost view = { λ s. record {
       taken = s.taken.items;

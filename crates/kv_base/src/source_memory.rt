@@ -2,7 +2,7 @@ ghost use Rattle.std.specs.Prelude.{◌≡◌, ℕ, ◌<◌, ◌≤◌, List, []
 ghost use Rattle.std.specs.Prelude.{IfOk, IsOk, OnErr};
 ghost use Rattle.kv_base.specs.Fault.{HasCause, Counted};
 ghost use Rattle.kv_base.specs.Stream.{Stream, Passes, IsSpent};
-ghost use Rattle.kv_base.specs.Memory.{Feed, Reads, SureReads};
+ghost use Rattle.kv_base.specs.Memory.{MemorySource, Reads, FaultlessReads};
 
 use crate::cursor::Cursor;
 use crate::{Bytes, Calls, Failed, Source};
@@ -21,9 +21,9 @@ pub struct MemSource {
 
 impl Model for MemSource {
     ghost use Rattle.std.specs.Prelude.{◌<◌};
-    ghost use Rattle.kv_base.specs.Memory.{Feed};
+    ghost use Rattle.kv_base.specs.Memory.{MemorySource};
 
-    ghost Value = { Feed };
+    ghost Value = { MemorySource };
 
     ghost view = { λ s. record {
       stream = s.cursor;
@@ -94,9 +94,9 @@ pub struct SureSource {
 
 impl Model for SureSource {
     ghost use Rattle.std.specs.Prelude.{◌<◌};
-    ghost use Rattle.kv_base.specs.Memory.{SureFeed};
+    ghost use Rattle.kv_base.specs.Memory.{FaultlessSource};
 
-    ghost Value = { SureFeed };
+    ghost Value = { FaultlessSource };
 
     ghost view = { λ s. record { stream = s.cursor; piece = s.piece } };
 
@@ -132,7 +132,7 @@ impl Source for SureSource {
         ensures counted { Counted 0 0 result }
 
         // it never fails, and how much it gives
-        ensures exact { SureReads self.old self.new buf.old result }
+        ensures exact { FaultlessReads self.old self.new buf.old result }
     {
         Ok(self.cursor.take(buf, self.piece as usize))
     }

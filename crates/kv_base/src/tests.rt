@@ -41,6 +41,11 @@ fn write_piece<S: Sink>(sink: &mut S, bytes: &[u8; 4]) -> Result<usize, Failed> 
     sink.write(bytes)
 }
 
+// Writes three pieces, of 1, 2 and 3 bytes, and answers how many were taken whole.
+fn write_three<S: Sink>(sink: &mut S) -> usize {
+    sink.write_pieces(b"abbccc", &[1, 3, 6])
+}
+
 #[test]
 fn a_source_gives_pieces_and_fails_at_its_listed_calls(rt: HostRuntime) -> Result<(), Fail> {
     let alloc = rt.alloc();
@@ -88,6 +93,70 @@ fn a_sink_takes_what_its_room_holds_and_fails_at_its_listed_calls(
     }
     assert_eq!(rt; sink.taken(), b"abcdab".as_slice());
     Ok(())
+}
+
+#[test]
+fn pieces_go_to_a_sink_one_call_each(rt: HostRuntime) -> Result<(), Fail> {
+    let alloc = rt.alloc();
+    // room, the call that fails, how many are whole, what was taken
+    let rows: [(usize, u32, usize, &[u8]); 6] = [
+        (9, 4, 3, b"abbccc"),
+        (9, 3, 2, b"abb"),
+        (9, 1, 0, b""),
+        (6, 4, 3, b"abbccc"),
+        (4, 9, 2, b"abbc"),
+        (2, 3, 1, b"ab"),
+    ];
+    for (room, failing, whole, taken) in rows {
+        let mut sink = MemSink::new(alloc, room, Calls::of(alloc, &[failing])?)?;
+        let found = write_three(&mut sink);
+        assert_eq!(rt; found, whole, "room {room}, call {failing} fails");
+        assert_eq!(rt; sink.taken(), taken, "room {room}, call {failing} fails");
+    }
+    Ok(())
+}
+
+// Takes at most so many bytes a call, and fails when its calls are spent.
+#[derive(Drop)]
+struct Pipe {
+    most: usize,
+    calls: u8,
+}
+
+impl io::Write for Pipe {
+    fn write(&mut self, buf: &[u8]) -> io::Result<usize> {
+        if self.calls == 0 {
+            return Err(io::Error::from(io::ErrorKind::Other));
+        }
+        self.calls -= 1;
+        Ok(buf.len().min(self.most))
+    }
+
+    fn flush(&mut self) -> io::Result<()> {
+        Ok(())
+    }
+}
+
+#[test]
+fn an_adapter_writes_all_pieces_in_one_call(rt: HostRuntime) {
+    // bytes that a call takes, calls before it fails, how many are whole
+    let rows = [
+        (9, 1, 3),
+        (6, 1, 3),
+        (4, 2, 3),
+        (4, 1, 2),
+        (2, 1, 1),
+        (1, 6, 3),
+        (0, 9, 0),
+    ];
+    for (most, calls, whole) in rows {
+        let mut sink = WriterSink::new(Pipe { most, calls });
+        assert_eq!(rt;
+            write_three(&mut sink),
+            whole,
+            "{most} bytes a call, {calls} calls"
+        );
+    }
 }
 
 // Gives one byte, then fails, then gives one more, then ends.

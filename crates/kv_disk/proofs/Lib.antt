@@ -3,4 +3,4 @@ mod PlainLemmas
 mod SettledLemmas
 mod SpotLemmas
 pub mod StepsLemmas
-mod TapeLemmas
+mod RecordedDiskLemmas

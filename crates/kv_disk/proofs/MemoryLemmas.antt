@@ -17,8 +17,8 @@ use Rattle.kv_disk.specs.Replay.{place_in, spot, spot_of, start_of, durable, Lef
 use Rattle.kv_disk.specs.Replay.{left_in, spots_after, spots_in, IsNoWrite, CallFits, SpotFits}
 use Rattle.kv_disk.specs.Replay.{put_at, held_with}
 use Rattle.kv_disk.specs.MemoryFields.{IsReplayed, Fits}
-use Rattle.kv_disk.specs.Memory.{Tape, spots_of, is_full}
-use Rattle.kv_disk.proofs.TapeLemmas.{is_full-true}
+use Rattle.kv_disk.specs.Memory.{RecordedDisk, spots_of, is_full}
+use Rattle.kv_disk.proofs.RecordedDiskLemmas.{is_full-true}
 use Rattle.kv_base.proofs.ImageLemmas.{one_place, same_image, test-at, test-other, with_page-at}
 use Rattle.kv_base.proofs.ImageLemmas.{with_page-other}
 use Rattle.kv_disk.proofs.PlainLemmas.{content-set}
@@ -185,7 +185,7 @@ spots-now start spots contents log calls room is counted =
     ap (spots_in start) (take_all calls log (omega (arith, counted))) ∙ sym is.held
 
 -- a disk that can hold a page isn't full
-pub is_full-false : (disk : Tape) (spots : List Spot) (f p : ℕ) → spots_of disk ≡ spots
+pub is_full-false : (disk : RecordedDisk) (spots : List Spot) (f p : ℕ) → spots_of disk ≡ spots
     → ((IsNone (place_in spots f p) × (disk.page_room ≤ length spots)) → ⊥)
     → is_full disk f p ≡ false
 is_full-false disk spots f p are can = elim (cases_Bool (is_full disk f p)) [

@@ -1,8 +1,9 @@
 -- Lemmas on contents that stand at the places of their pages.
 use Rattle.std.proofs.Common.{◌≡◌, ℕ, ◌≤◌, ◌<◌, ◌+◌, List, [], ◌∷◌, ◌++◌, Option, Some, None}
-use Rattle.std.proofs.Common.{length, get_or, set, max, inl, inr, refl, ap, sym, ◌∙◌, subst₂, arith}
+use Rattle.std.proofs.Common.{length, get_or, set, max, inl, inr, refl, ap, sym, ◌∙◌, subst, subst₂, arith}
+use Rattle.std.proofs.Common.{IsSome}
 use Rattle.std.proofs.Common.{get_or-set_same, get_or-set_other}
-use Rattle.std.proofs.lemmas.Bool.{cond-true, cond-false, cases_eq}
+use Rattle.std.proofs.lemmas.Bool.{cond-true, cond-false, cases_eq, cases_lt}
 use Rattle.std.proofs.lemmas.List.{get_or_append_left, get_or_push}
 use Rattle.kv_base.specs.Image.{with_page, zero_page}
 use Rattle.kv_disk.specs.Plain.{content_at}
@@ -141,3 +142,36 @@ above-push old new count file page lengths puts fits above f p le = elim (cases_
       ∙ above f p (rw (get_or-set_other lengths file f (max (get_or lengths file 0) (page + 1)) 0
       other) at le)
 ]
+
+-- and the last of them is one below
+pub last-push : (old new : ℕ → ℕ → Option ℕ) (count file page : ℕ) (lengths : List ℕ)
+    → Places old new file page count → file < length lengths
+    → ((f p : ℕ) → get_or lengths f 0 ≡ p + 1 → IsSome (old f p))
+    → (f p : ℕ) → get_or (set lengths file (max (get_or lengths file 0) (page + 1))) f 0 ≡ p + 1
+    → IsSome (new f p)
+last-push old new count file page lengths puts fits last f p is =
+    let Q : Option ℕ → Type 0 = λ o. IsSome o in
+    elim (one_place f p file page) [
+      | inl same ↦ subst Q (sym (place-at old new file page count f p puts same.0 same.1)) refl
+      | inr other ↦ subst Q (sym (place-other old new file page count f p puts other))
+          (last f p (elim (cases_eq f file) [
+            | inl same ↦
+                let now : get_or (set lengths file (max (get_or lengths file 0) (page + 1))) f 0
+                ≡ max (get_or lengths file 0) (page + 1) =
+                rw same (get_or-set_same lengths file (max (get_or lengths file 0) (page + 1)) 0
+                fits) in
+                elim (cases_eq p page) [
+                  | inl at ↦ absurd (other same at)
+                  | inr past ↦ rw same (elim (cases_lt p page) [
+                    | inl below ↦ absurd (omega (arith, now, is, below))
+                    | inr above ↦
+                        elim (cases_lt page p) [
+                          | inl more ↦ omega (arith, now, is, more)
+                          | inr less ↦ absurd (past (omega (arith, above, less)))
+                        ]
+                  ])
+                ]
+            | inr differs ↦ sym (get_or-set_other lengths file f
+                (max (get_or lengths file 0) (page + 1)) 0 differs) ∙ is
+          ]))
+    ]

@@ -15,7 +15,7 @@ use Rattle.kv_disk.specs.Plain.{content_at}
 use Rattle.kv_disk.specs.Replay.{place_in, spot, spot_of, start_of, spots_after, spots_in}
 use Rattle.kv_disk.specs.Replay.{waiting_in, comes_before, chosen_in, durable, Left, after_call}
 use Rattle.kv_disk.specs.Replay.{left_in}
-use Rattle.kv_disk.specs.Memory.{Tape, left_at, image_of, choices_of, crashed}
+use Rattle.kv_disk.specs.Memory.{RecordedDisk, left_at, image_of, choices_of, crashed}
 use Rattle.kv_disk.specs.Told.{seen_is_left}
 use Rattle.kv_base.proofs.ImageLemmas.{test-other}
 use Rattle.kv_disk.proofs.SpotLemmas.{place_in-push, start_of-place, start_of-held_with}
@@ -80,7 +80,7 @@ not_held pages log f p absent =
     ap (λ c. fold (after_call f p) (durable c) log) start ∙ parts.1
 
 -- what the choices give is one of the contents
-chosen_is_left : (disk : Tape) (t : ℕ) (choice : List ℕ) (f p : ℕ)
+chosen_is_left : (disk : RecordedDisk) (t : ℕ) (choice : List ℕ) (f p : ℕ)
     → Contains (left_at disk t f p).contents (chosen_in disk.pages (take t disk.log) choice f p)
 chosen_is_left disk t choice f p =
     let contents = (left_at disk t f p).contents in
@@ -90,7 +90,7 @@ chosen_is_left disk t choice f p =
     (let any = some.1 in omega (arith, any))
 
 -- after a crash the disk reads as an image that the crash may leave
-pub crash_may_leave : (disk : Tape) (t : ℕ) (choice : List ℕ)
+pub crash_may_leave : (disk : RecordedDisk) (t : ℕ) (choice : List ℕ)
     → MayLeave (choices_of disk t) (image_of (crashed disk t choice))
 crash_may_leave disk t choice f p =
     elim (start_of-held_with (chosen_in disk.pages (take t disk.log) choice)

@@ -14,7 +14,7 @@ use Rattle.kv_disk.specs.Replay.{spots_in, settled_in}
 
 -- the pages before the first call, the calls in order as far as their room goes, the rooms for
 -- pages and for calls, the numbers of the calls that fail, and the counts
-pub record Tape : Type 0 where
+pub record RecordedDisk : Type 0 where
   pub pages : List Held
   pub log : List Call
   pub page_room : ℕ
@@ -24,40 +24,40 @@ pub record Tape : Type 0 where
   pub faults : ℕ
 
 -- what a page reads as and what a crash may leave of it, at a moment
-abbrev pub left_at : Tape → ℕ → ℕ → ℕ → Left
+abbrev pub left_at : RecordedDisk → ℕ → ℕ → ℕ → Left
 left_at disk t f p = left_in disk.pages (take t disk.log) f p
 
 -- what it reads as
-abbrev pub image_of : Tape → Image
+abbrev pub image_of : RecordedDisk → Image
 image_of disk f p = (left_at disk disk.calls f p).seen
 
 -- what a crash at a moment may leave of each page
-abbrev pub choices_of : Tape → ℕ → Choices
+abbrev pub choices_of : RecordedDisk → ℕ → Choices
 choices_of disk t f p c = Contains (left_at disk t f p).contents c
 
 -- the pages that it holds
-abbrev pub spots_of : Tape → List Spot
+abbrev pub spots_of : RecordedDisk → List Spot
 spots_of disk = spots_in disk.pages (take disk.calls disk.log)
 
 -- its room for calls is spent
-abbrev pub IsPast : Tape → Type 0
+abbrev pub IsPast : RecordedDisk → Type 0
 IsPast disk = disk.call_room ≤ length disk.log
 
 -- the next call is one of those that fail
-abbrev pub IsListed : Tape → Type 0
+abbrev pub IsListed : RecordedDisk → Type 0
 IsListed disk = Contains disk.failing (next_count disk.calls)
 
 -- the page is new and the room for pages is spent
-abbrev pub IsFull : Tape → ℕ → ℕ → Type 0
+abbrev pub IsFull : RecordedDisk → ℕ → ℕ → Type 0
 IsFull disk f p = IsNone (place_in (spots_of disk) f p) × (disk.page_room ≤ length (spots_of disk))
 
 -- the same as a test
-abbrev pub is_full : Tape → ℕ → ℕ → Bool
+abbrev pub is_full : RecordedDisk → ℕ → ℕ → Bool
 is_full disk f p = is_none (place_in (spots_of disk) f p) && nat_le disk.page_room
     (length (spots_of disk))
 
 -- a call was counted, and is kept on the list of calls where there is room; all else stays
-pub record Keeps {T E : Type 0} (call : Call) (old new : Tape) (result : Result T E) : Type 0 where
+pub record Keeps {T E : Type 0} (call : Call) (old new : RecordedDisk) (result : Result T E) : Type 0 where
   pub log : new.log ≡ (if nat_le old.call_room (length old.log) then old.log
       else old.log ++ call ∷ [])
   pub pages : new.pages ≡ old.pages
@@ -69,19 +69,19 @@ pub record Keeps {T E : Type 0} (call : Call) (old new : Tape) (result : Result 
 
 -- a read or a length: it fails exactly at a listed call and past the room for calls, and changes
 -- nothing else
-pub record Looks {T E : Type 0} (old new : Tape) (result : Result T E) : Type 0 where
+pub record RecordsLook {T E : Type 0} (old new : RecordedDisk) (result : Result T E) : Type 0 where
   pub failed : IsErr result ↔ (IsPast old ⊎ IsListed old)
   pub kept : Keeps Idle old new result
 
 -- a sync: it fails exactly at a listed call and past the room for calls, and then changes nothing
 -- else
-pub record Syncs {T E : Type 0} (old new : Tape) (result : Result T E) : Type 0 where
+pub record RecordsSync {T E : Type 0} (old new : RecordedDisk) (result : Result T E) : Type 0 where
   pub failed : IsErr result ↔ (IsPast old ⊎ IsListed old)
   pub kept : Keeps (if is_ok result then Sync else Idle) old new result
 
 -- a write: it fails exactly at a listed call and where a room is spent; where a room is spent it
 -- changes the counts alone
-pub record Writes {T E : Type 0} (file page : ℕ) (content : List ℕ) (old new : Tape)
+pub record RecordsWrite {T E : Type 0} (file page : ℕ) (content : List ℕ) (old new : RecordedDisk)
     (result : Result T E) : Type 0 where
   pub failed : IsErr result ↔ (IsPast old ⊎ (IsFull old file page ⊎ IsListed old))
   pub kept : Keeps (if is_full old file page then Idle
@@ -89,11 +89,11 @@ pub record Writes {T E : Type 0} (file page : ℕ) (content : List ℕ) (old new
       new result
 
 -- its list of calls is as long as its count of calls and its room allow
-abbrev pub IsCounted : Tape → Type 0
+abbrev pub IsCounted : RecordedDisk → Type 0
 IsCounted disk = length disk.log ≡ min disk.calls disk.call_room
 
 -- a disk in memory on which a page was put, synced at once
-abbrev pub with_held : Tape → ℕ → ℕ → List ℕ → Tape
+abbrev pub with_held : RecordedDisk → ℕ → ℕ → List ℕ → RecordedDisk
 with_held disk file page content =
     record disk {
       pages = put_at disk.pages (held_with (spot file page) content)
@@ -101,7 +101,7 @@ with_held disk file page content =
     }
 
 -- a disk in memory after a crash
-abbrev pub crashed : Tape → ℕ → List ℕ → Tape
+abbrev pub crashed : RecordedDisk → ℕ → List ℕ → RecordedDisk
 crashed disk moment choice =
     record {
       pages = settled_in disk.pages (take moment disk.log) choice;
@@ -115,7 +115,7 @@ crashed disk moment choice =
 
 -- its list of calls is as long as its count of calls and its room allow, and its numbers are those
 -- of their types
-pub record IsTape (disk : Tape) : Type 0 where
+pub record IsRecordedDisk (disk : RecordedDisk) : Type 0 where
   pub counted : IsCounted disk
   pub room : disk.call_room < 2 ^ 32
   pub calls : disk.calls < 2 ^ 64

@@ -1,6 +1,6 @@
 -- A disk in memory that keeps its pages alone.
 use Rattle.std.specs.Prelude.{◌≡◌, ℕ, ◌+◌, ◌≤◌, ◌==◌, ◌&&◌, ◌↔◌, List, length, Option, None, Some}
-use Rattle.std.specs.Prelude.{Result, IsErr, IsNone, OnErr, OnOk, is_none, is_err, slice_index_or}
+use Rattle.std.specs.Prelude.{Result, IsErr, IsNone, IsSome, OnErr, OnOk, is_none, is_err, slice_index_or}
 use Rattle.std.specs.Prelude.{if◌then◌else◌}
 use Rattle.std.specs.Map.{lookup}
 use Rattle.kv_base.specs.Calls.{next_count}
@@ -28,6 +28,11 @@ place_of places f p = lookup (λ k. (f == k.0) && (p == k.1)) places
 -- what it reads as
 abbrev pub image_of : Plain → Image
 image_of disk f p = content_at disk.contents (place_of disk.places f p)
+
+-- one past the last page of the file that was written, and 0 where none was
+pub record EndsAt (disk : Plain) (file pages : ℕ) : Type 0 where
+  pub above : (p : ℕ) → pages ≤ p → place_of disk.places file p ≡ None
+  pub last : (p : ℕ) → pages ≡ p + 1 → IsSome (place_of disk.places file p)
 
 -- no content is told to be left by a crash
 abbrev pub no_choices : ℕ → Choices

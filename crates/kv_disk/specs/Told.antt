@@ -6,7 +6,7 @@ use Rattle.kv_base.specs.Crash.{MayLeave}
 use Rattle.kv_disk.specs.declared.call.Call.{Call}
 use Rattle.kv_disk.specs.declared.call.Call.TheVariants.{Write, Sync, Idle}
 use Rattle.kv_disk.specs.Replay.{Left, after_call, durable, start_of}
-use Rattle.kv_disk.specs.Memory.{Tape, left_at, choices_of}
+use Rattle.kv_disk.specs.Memory.{RecordedDisk, left_at, choices_of}
 
 -- what is read may be left
 abbrev pub LeavesSeen : Left → Type 0
@@ -40,7 +40,7 @@ leaves_seen-log f p left (call ∷ log) has = leaves_seen-log f p (after_call f 
     (leaves_seen-call f p left call has)
 
 -- at each moment a crash may leave what is read
-pub seen_is_left : (disk : Tape) (t : ℕ)
+pub seen_is_left : (disk : RecordedDisk) (t : ℕ)
     → MayLeave (choices_of disk t) (λ f p. (left_at disk t f p).seen)
 seen_is_left disk t f p = leaves_seen-log f p (durable (start_of disk.pages f p)) (take t disk.log)
     (Contains-push [] (start_of disk.pages f p))

@@ -8,7 +8,7 @@ ghost use Rattle.kv_base.specs.Crash.{MayLeave, Only, NoMore, Same, Adds, Writte
 ghost use Rattle.kv_disk.specs.Plain.{content_at};
 ghost use Rattle.kv_disk.specs.Replay.{place_in, spot, length_in, IsNoWrite};
 ghost use Rattle.kv_disk.specs.Memory.{image_of, choices_of, spots_of, is_full, with_held, crashed};
-ghost use Rattle.kv_disk.specs.Memory.{Keeps, IsPast, IsListed, Looks, Syncs, Writes, IsTape};
+ghost use Rattle.kv_disk.specs.Memory.{Keeps, IsPast, IsListed, RecordsLook, RecordsSync, RecordsWrite, IsRecordedDisk};
 ghost use Rattle.kv_disk.specs.Told.{seen_is_left};
 ghost use Rattle.kv_disk.specs.declared.call.Call.TheVariants.{Sync, Idle};
 
@@ -38,10 +38,10 @@ pub struct MemDisk {
 }
 
 impl Model for MemDisk {
-    ghost use Rattle.kv_disk.specs.Memory.{Tape};
+    ghost use Rattle.kv_disk.specs.Memory.{RecordedDisk};
     ghost use Rattle.kv_disk.specs.MemoryFields.{IsMemory};
 
-    ghost Value = { Tape };
+    ghost Value = { RecordedDisk };
 
     ghost view = { λ d. record {
       pages = d.start.items;
@@ -150,7 +150,7 @@ impl MemDisk {
         requires { IsNoWrite call }
         ensures failed { IsErr result ↔ (IsPast self.old ⊎ IsListed self.old) }
         ensures kept { Keeps (if is_ok result then call else Idle) self.old self.new result }
-        ensures tape { IsTape self.old }
+        ensures recorded { IsRecordedDisk self.old }
     {
         self.calls = self.calls.saturating_add(1);
         if self.log.len() >= self.call_room as usize || self.failing.has(self.calls) {
@@ -165,8 +165,8 @@ impl MemDisk {
     // Makes a write.
     fn put(&mut self, file: u8, page: u32, content: &[u8; 4096]) -> Result<(), Failed>
         requires { page < 2 ^ 32 - 1 }
-        ensures writes { Writes file page content.now self.old self.new result }
-        ensures tape { IsTape self.old }
+        ensures writes { RecordsWrite file page content.now self.old self.new result }
+        ensures recorded { IsRecordedDisk self.old }
     {
         self.calls = self.calls.saturating_add(1);
         if self.log.len() >= self.call_room as usize {
@@ -332,7 +332,7 @@ impl Disk for MemDisk {
         ensures counted { Counted self.old.faults self.new.faults result }
 
         // exactly when it fails, and what stays
-        ensures exact { Looks self.old self.new result }
+        ensures exact { RecordsLook self.old self.new result }
     {
         self.make(Call::Idle)?;
         *buf = *self.content(file, page);
@@ -354,7 +354,7 @@ impl Disk for MemDisk {
         ensures counted { Counted self.old.faults self.new.faults result }
 
         // exactly when it fails, and what stays
-        ensures exact { Writes file page content.now self.old self.new result }
+        ensures exact { RecordsWrite file page content.now self.old self.new result }
     {
         self.put(file, page, content)
     }
@@ -373,7 +373,7 @@ impl Disk for MemDisk {
         ensures counted { Counted self.old.faults self.new.faults result }
 
         // exactly when it fails, and what stays
-        ensures exact { Syncs self.old self.new result }
+        ensures exact { RecordsSync self.old self.new result }
     {
         self.make(Call::Sync)
     }
@@ -391,7 +391,7 @@ impl Disk for MemDisk {
         ensures counted { Counted self.old.faults self.new.faults result }
 
         // exactly when it fails, what it answers, and what stays
-        ensures exact { Looks self.old self.new result }
+        ensures exact { RecordsLook self.old self.new result }
         ensures value { IfOk result (λ pages. pages ≡ length_in (spots_of self.old) file) }
     {
         self.make(Call::Idle)?;

@@ -5,7 +5,8 @@ ghost use Rattle.kv_base.specs.Image.{zero_page, with_page};
 ghost use Rattle.kv_base.specs.Crash.{Only, NoMore, Same, Adds, WrittenOrNot, Advances};
 ghost use Rattle.std.specs.HashMap.{hash_map_len, spare};
 ghost use Rattle.kv_disk.specs.PlainFields.{Places};
-ghost use Rattle.kv_disk.specs.Plain.{place_of, image_of, no_choices, Counts, PlainWrites};
+ghost use Rattle.kv_disk.specs.Plain.{place_of, image_of, no_choices, Counts, EndsAt};
+ghost use Rattle.kv_disk.specs.Plain.{PlainWrites};
 
 use crate::Disk;
 use kv_base::{Failed, NoMemory};
@@ -184,8 +185,9 @@ impl Disk for PlainDisk {
         ensures cause { HasCause self.old.faults self.new.faults result }
         ensures counted { Counted self.old.faults self.new.faults result }
 
-        // it never fails
+        // it never fails, and gives the least such number
         ensures ok { IsOk result }
+        ensures value { IfOk result (EndsAt self.old file) }
         ensures kept { Counts self.old self.new }
     {
         self.calls = self.calls.saturating_add(1);

@@ -9,9 +9,10 @@ use Rattle.std.proofs.lemmas.Bool.{le-leb, leb-true, eqb-true, cases_Bool}
 use Rattle.std.proofs.lemmas.List.{take-append-drop, length-append, length-take-le}
 use Rattle.std.proofs.lemmas.Nat.{le_bytes_8, from_le_bytes-to_le_bytes_8}
 use Rattle.kv_base.specs.declared.reply.Reply.{Reply}
-use Rattle.kv_base.specs.declared.reply.Reply.TheVariants.{Stored, Found, Missing, BadKey, TooLarge}
-use Rattle.kv_base.specs.declared.reply.Reply.TheVariants.{Full, NoMemory, DiskFault, Unsure}
-use Rattle.kv_base.specs.declared.reply.Reply.TheVariants.{Closed, Malformed}
+use Rattle.kv_base.specs.declared.reply.Reply.TheVariants.{Stored, Found, Missing, Removed, Absent}
+use Rattle.kv_base.specs.declared.reply.Reply.TheVariants.{BadKey, TooLarge, Full, NoMemory}
+use Rattle.kv_base.specs.declared.reply.Reply.TheVariants.{DiskFault, Unsure, Closed, StampsSpent}
+use Rattle.kv_base.specs.declared.reply.Reply.TheVariants.{Malformed}
 use Rattle.kv_model.specs.Frames.{reply_content, HasReplyBody, reply_frame, BeginsWithReply}
 use Rattle.kv_model.specs.Frames.{BeginsWithNoReply, IsPartial, IsMalformedReply}
 use Rattle.kv_frames.specs.Cut.{BeginsWithContent, IsOutOfRange}
@@ -35,6 +36,10 @@ reply_again (Found stamp value) fits =
     rw long (ap (λ (s : ℕ). Some (Found s value)) (from_le_bytes-to_le_bytes_8 stamp fits))
 reply_again (Missing stamp) fits =
     ap (λ (s : ℕ). Some (Missing s)) (from_le_bytes-to_le_bytes_8 stamp fits)
+reply_again (Removed stamp) fits =
+    ap (λ (s : ℕ). Some (Removed s)) (from_le_bytes-to_le_bytes_8 stamp fits)
+reply_again (Absent stamp) fits =
+    ap (λ (s : ℕ). Some (Absent s)) (from_le_bytes-to_le_bytes_8 stamp fits)
 reply_again BadKey fits = refl
 reply_again TooLarge fits = refl
 reply_again (Full class) fits = refl
@@ -43,6 +48,8 @@ reply_again DiskFault fits = refl
 reply_again (Unsure stamp) fits =
     ap (λ (s : ℕ). Some (Unsure s)) (from_le_bytes-to_le_bytes_8 stamp fits)
 reply_again Closed fits = refl
+reply_again (StampsSpent number) fits =
+    ap (λ (s : ℕ). Some (StampsSpent s)) (from_le_bytes-to_le_bytes_8 number fits)
 reply_again (Malformed offset) fits =
     ap (λ (s : ℕ). Some (Malformed s)) (from_le_bytes-to_le_bytes_8 offset fits)
 
@@ -88,9 +95,12 @@ stamped_back : (kind number : ℕ) (body : List ℕ) (reply : Reply) → number 
 stamped_back kind number body reply fits is =
     one_kind kind 0x81 body (Stored number) reply _ fits (ap (λ (b : List ℕ). 0x81 ∷ b) is)
     (one_kind kind 0x83 body (Missing number) reply _ fits (ap (λ (b : List ℕ). 0x83 ∷ b) is)
+    (one_kind kind 0x84 body (Removed number) reply _ fits (ap (λ (b : List ℕ). 0x84 ∷ b) is)
+    (one_kind kind 0x85 body (Absent number) reply _ fits (ap (λ (b : List ℕ). 0x85 ∷ b) is)
     (one_kind kind 0xE6 body (Unsure number) reply _ fits (ap (λ (b : List ℕ). 0xE6 ∷ b) is)
+    (one_kind kind 0xE8 body (StampsSpent number) reply _ fits (ap (λ (b : List ℕ). 0xE8 ∷ b) is)
     (one_kind kind 0xE9 body (Malformed number) reply _ fits (ap (λ (b : List ℕ). 0xE9 ∷ b) is)
-    (λ e. absurd cc))))
+    (λ e. absurd cc)))))))
 
 -- a number of eight bytes
 from_le_bytes_8-fits : (bytes : List ℕ) → IsBytes bytes → from_le_bytes w64 bytes < 2 ^ 64
@@ -152,6 +162,8 @@ reply_some : (reply : Reply) → 1 ≤ length (reply_content reply)
 reply_some (Stored stamp) = omega arith
 reply_some (Found stamp value) = omega arith
 reply_some (Missing stamp) = omega arith
+reply_some (Removed stamp) = omega arith
+reply_some (Absent stamp) = omega arith
 reply_some BadKey = omega arith
 reply_some TooLarge = omega arith
 reply_some (Full class) = omega arith
@@ -159,6 +171,7 @@ reply_some NoMemory = omega arith
 reply_some DiskFault = omega arith
 reply_some (Unsure stamp) = omega arith
 reply_some Closed = omega arith
+reply_some (StampsSpent number) = omega arith
 reply_some (Malformed offset) = omega arith
 
 -- replies' contents are written and read

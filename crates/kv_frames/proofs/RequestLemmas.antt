@@ -1,15 +1,16 @@
 -- Lemmas on frames of requests.
-use Rattle.std.proofs.Common.{◌≡◌, ℕ, ◌+◌, ◌^◌, ◌<◌, ◌≤◌, true, cond, List, [], ◌∷◌, ◌++◌, length}
-use Rattle.std.proofs.Common.{take, drop, Some, None, inl, inr, refl, subst, ◌∙◌, arith, eqb, leb}
+use Rattle.std.proofs.Common.{◌≡◌, ℕ, suc, ◌+◌, ◌^◌, ◌<◌, ◌≤◌, true, cond, List, [], ◌∷◌, ◌++◌}
+use Rattle.std.proofs.Common.{length, take, drop, Option, Some, None, inl, inr, refl, subst, ◌∙◌}
+use Rattle.std.proofs.Common.{arith, eqb, leb}
 use Rattle.std.proofs.lemmas.Bool.{le-leb, leb-true, eqb-true}
 use Rattle.std.proofs.lemmas.List.{take_at, drop_at, take-append-drop, length-append}
 use Rattle.std.proofs.lemmas.List.{length-take-le}
 use Rattle.kv_base.specs.declared.request.Request.{Request}
-use Rattle.kv_base.specs.declared.request.Request.TheVariants.{Put, Get}
+use Rattle.kv_base.specs.declared.request.Request.TheVariants.{Put, Get, Delete, Flush}
 use Rattle.kv_model.specs.Frames.{request_content, HasRequestBody, request_frame, BeginsWithRequest}
 use Rattle.kv_model.specs.Frames.{BeginsWithNoRequest, IsPartial, IsMalformed}
 use Rattle.kv_frames.specs.Cut.{BeginsWithContent, IsOutOfRange}
-use Rattle.kv_frames.specs.Reading.{put_body_in, request_in}
+use Rattle.kv_frames.specs.Reading.{put_body_in, flush_body_in, request_in}
 use Rattle.kv_frames.specs.Parse.{IsWhole}
 use Rattle.kv_frames.proofs.FramingLemmas.{IsBytes, stated_length-framed, content_within}
 use Rattle.kv_frames.proofs.CodeLemmas.{IsCode, Begins, chosen, begins_read, read_found}
@@ -23,11 +24,27 @@ request_again (Put key value) fits =
     le-leb _ _ (omega (arith, length-append key value)) in
     rw (long, take_at key value (length key) refl, drop_at key value (length key) refl) refl
 request_again (Get key) fits = refl
+request_again (Delete key) fits = refl
+request_again Flush fits = refl
+
+-- the request has this kind and body
+abbrev IsRequestOf : ℕ → List ℕ → Request → Type 0
+IsRequestOf kind body request = HasRequestBody request × (request_content request ≡ kind ∷ body)
+
+-- one kind is compared, and then the others
+one_kind : (kind number : ℕ) (body : List ℕ) (request : Request) (read other : Option Request)
+    → (read ≡ Some request → IsRequestOf number body request)
+    → (other ≡ Some request → IsRequestOf kind body request)
+    → cond (eqb kind number) read other ≡ Some request → IsRequestOf kind body request
+one_kind kind number body request read other this others e =
+    elim (chosen (eqb kind number) read other (Some request) e) [
+      | inl p ↦ rw (eqb-true kind number p.0) (this p.1)
+      | inr p ↦ others p.1
+    ]
 
 -- what is read as a Put's body is its body
-put_back : (body : List ℕ) (request : Request) → IsBytes (1 ∷ body)
-    → put_body_in body ≡ Some request
-    → HasRequestBody request × (request_content request ≡ 1 ∷ body)
+put_back : (body : List ℕ) (request : Request) → IsBytes body → put_body_in body ≡ Some request
+    → IsRequestOf 0x01 body request
 put_back [] request fits e = absurd cc
 put_back (key_length ∷ rest) request fits e =
     elim (chosen (leb key_length (length rest))
@@ -36,38 +53,42 @@ put_back (key_length ∷ rest) request fits e =
           let is : Put (take key_length rest) (drop key_length rest) ≡ request = cc in
           let size : length (take key_length rest) ≡ key_length =
           length-take-le key_length rest (leb-true _ _ p.0) in
-          let key_fits : key_length < 256 = fits 1 in
-          subst (λ (r : Request). HasRequestBody r × (request_content r ≡ 1 ∷ key_length ∷ rest)) is
+          let key_fits : key_length < 256 = fits 0 in
+          subst (λ (r : Request). IsRequestOf 0x01 (key_length ∷ rest) r) is
           (omega arith, rw (size, take-append-drop key_length rest) refl)
       | inr p ↦ absurd cc
     ]
+
+-- a body that is all key is read back
+key_back : (number : ℕ) (body : List ℕ) (value request : Request) → HasRequestBody value
+    → request_content value ≡ number ∷ body → Some value ≡ Some request
+    → IsRequestOf number body request
+key_back number body value request has is e =
+    let same : value ≡ request = cc in
+    subst (λ (r : Request). IsRequestOf number body r) same (has, is)
+
+-- what is read as a Flush has no body
+flush_back : (body : List ℕ) (request : Request) → flush_body_in body ≡ Some request
+    → IsRequestOf 0x05 body request
+flush_back [] request e = key_back 0x05 [] Flush request tt refl e
+flush_back (byte ∷ rest) request e = absurd cc
 
 -- what is read as a request is its content
 request_back : (bytes : List ℕ) (request : Request) → IsBytes bytes
     → request_in bytes ≡ Some request → HasRequestBody request × (request_content request ≡ bytes)
 request_back [] request fits e = absurd cc
 request_back (kind ∷ body) request fits e =
-    elim (chosen (eqb kind 1) (put_body_in body) (cond (eqb kind 2) (Some (Get body)) None)
-    (Some request) e) [
-      | inl p ↦
-          let is : kind ≡ 1 = eqb-true kind 1 p.0 in
-          let fits' : IsBytes (1 ∷ body) = subst (λ (k : ℕ). IsBytes (k ∷ body)) is fits in
-          rw is (put_back body request fits' p.1)
-      | inr p ↦
-          elim (chosen (eqb kind 2) (Some (Get body)) None (Some request) p.1) [
-            | inl q ↦
-                let is : Get body ≡ request = cc in
-                let kind_is : kind ≡ 2 = eqb-true kind 2 q.0 in
-                subst (λ (r : Request). HasRequestBody r × (request_content r ≡ kind ∷ body)) is
-                (rw kind_is (tt, refl))
-            | inr q ↦ absurd cc
-          ]
-    ]
+    one_kind kind 0x01 body request _ _ (put_back body request (λ i. fits (suc i)))
+    (one_kind kind 0x02 body request _ _ (key_back 0x02 body (Get body) request tt refl)
+    (one_kind kind 0x03 body request _ _ (key_back 0x03 body (Delete body) request tt refl)
+    (one_kind kind 0x05 body request _ _ (flush_back body request) (λ none. absurd cc)))) e
 
 -- a request's content has its kind at least
 pub request_some : (request : Request) → 1 ≤ length (request_content request)
 request_some (Put key value) = omega arith
 request_some (Get key) = omega arith
+request_some (Delete key) = omega arith
+request_some Flush = omega arith
 
 -- requests' contents are written and read
 request_code : IsCode Request request_content HasRequestBody request_in

@@ -63,18 +63,18 @@ split_once (request ∷ requests) (other ∷ others) rest behind has also e none
     let same = split_once requests others rest behind has.1 also.1 first.1 none nor in
     (cons_same request other requests others first.0 same.0, same.1)
 
--- as many requests whose frames begin the same bytes are the same
-pub requests_once : (requests others : List Request) (rest behind : List ℕ)
-    → length requests ≡ length others
+-- requests that are no more than others whose frames begin the same bytes are the first of these
+pub requests_behind : (requests others : List Request) (rest behind : List ℕ)
+    → length requests ≤ length others
     → AllByRecursion HasRequestFrame requests → AllByRecursion HasRequestFrame others
-    → stream_of requests rest ≡ stream_of others behind → requests ≡ others
-requests_once [] [] rest behind n has also e = refl
-requests_once [] (other ∷ others) rest behind n has also e = absurd (omega arith)
-requests_once (request ∷ requests) [] rest behind n has also e = absurd (omega arith)
-requests_once (request ∷ requests) (other ∷ others) rest behind n has also e =
+    → stream_of requests rest ≡ stream_of others behind
+    → (more : List Request) × (others ≡ requests ++ more)
+requests_behind [] others rest behind n has also e = (others, refl)
+requests_behind (request ∷ requests) [] rest behind n has also e = absurd (omega arith)
+requests_behind (request ∷ requests) (other ∷ others) rest behind n has also e =
     let first = first_once request other requests others rest behind has.0 also.0 e in
-    cons_same request other requests others first.0
-    (requests_once requests others rest behind (omega arith) has.1 also.1 first.1)
+    let more = requests_behind requests others rest behind (omega arith) has.1 also.1 first.1 in
+    (more.0, cons_same other request others (requests ++ more.0) (sym first.0) more.1)
 
 -- fewer requests leave a rest that a request begins
 pub more_behind : (requests others : List Request) (rest behind : List ℕ)

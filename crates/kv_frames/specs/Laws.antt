@@ -8,6 +8,7 @@ use Rattle.kv_model.specs.Frames.{HasRequestFrame, request_frame, BeginsWithRequ
 use Rattle.kv_model.specs.Frames.{BeginsWithNoRequest}
 use Rattle.kv_model.specs.Frames.{HasReplyFrame, reply_frame, BeginsWithReply, BeginsWithNoReply}
 use Rattle.kv_model.specs.Frames.{BeginsWithRequests, SplitsInto, IsPartial, IsMalformed}
+use Rattle.kv_model.specs.Pairs.{Pair}
 use Rattle.kv_model.specs.Transcript.{GoesOut, HasTranscript}
 use Rattle.kv_frames.specs.Pieces.{ReadInPieces}
 
@@ -78,12 +79,11 @@ OneOutcome =
     → AllByRecursion HasReplyFrame replies → AllByRecursion HasReplyFrame others
     → GoesOut replies given left → GoesOut others given left → replies ≡ others
 
--- what a session took and gave, what is left and why it ended are those of one list of requests
--- and one of replies
+-- what a session took and gave, what is left and why it ended are those of one list of groups, each
+-- request with its reply
 abbrev pub OneTranscript : Type 0
 OneTranscript =
     (taken : List ℕ) (ended : Bool) (given : List ℕ) (left : List Reply) (cause : Cause)
-    (handled others : List Request) (replies answers : List Reply)
-    → HasTranscript taken ended given left cause handled replies
-    → HasTranscript taken ended given left cause others answers
-    → (handled ≡ others) × (replies ≡ answers)
+    (groups others : List (List Pair))
+    → HasTranscript taken ended given left cause groups
+    → HasTranscript taken ended given left cause others → groups ≡ others

@@ -4,11 +4,12 @@ use Rattle.std.specs.Prelude.{nat_le, if◌then◌else◌}
 use Rattle.std.specs.Int.{w64, from_le_bytes}
 use Rattle.std.specs.Option.{option_and_then}
 use Rattle.kv_base.specs.declared.request.Request.{Request}
-use Rattle.kv_base.specs.declared.request.Request.TheVariants.{Put, Get}
+use Rattle.kv_base.specs.declared.request.Request.TheVariants.{Put, Get, Delete, Flush}
 use Rattle.kv_base.specs.declared.reply.Reply.{Reply}
-use Rattle.kv_base.specs.declared.reply.Reply.TheVariants.{Stored, Found, Missing, BadKey, TooLarge}
-use Rattle.kv_base.specs.declared.reply.Reply.TheVariants.{Full, NoMemory, DiskFault, Unsure}
-use Rattle.kv_base.specs.declared.reply.Reply.TheVariants.{Closed, Malformed}
+use Rattle.kv_base.specs.declared.reply.Reply.TheVariants.{Stored, Found, Missing, Removed, Absent}
+use Rattle.kv_base.specs.declared.reply.Reply.TheVariants.{BadKey, TooLarge, Full, NoMemory}
+use Rattle.kv_base.specs.declared.reply.Reply.TheVariants.{DiskFault, Unsure, Closed, StampsSpent}
+use Rattle.kv_base.specs.declared.reply.Reply.TheVariants.{Malformed}
 
 -- the key of so many bytes, and the value behind it, where the key is all there
 abbrev pub put_in : ℕ → List ℕ → Option Request
@@ -21,12 +22,19 @@ abbrev pub put_body_in : List ℕ → Option Request
 put_body_in [] = None
 put_body_in (key_length ∷ rest) = put_in key_length rest
 
+-- a Flush's body: nothing
+abbrev pub flush_body_in : List ℕ → Option Request
+flush_body_in [] = Some Flush
+flush_body_in (byte ∷ rest) = None
+
 -- the request with this content, where there is one
 abbrev pub request_in : List ℕ → Option Request
 request_in [] = None
 request_in (kind ∷ body) =
     if kind == 0x01 then put_body_in body else
-    (if kind == 0x02 then Some (Get body) else None)
+    (if kind == 0x02 then Some (Get body) else
+    (if kind == 0x03 then Some (Delete body) else
+    (if kind == 0x05 then flush_body_in body else None)))
 
 -- the number that a body of eight bytes is
 abbrev pub number_in : List ℕ → Option ℕ
@@ -50,8 +58,11 @@ abbrev pub stamped_of : ℕ → ℕ → Option Reply
 stamped_of kind number =
     if kind == 0x81 then Some (Stored number) else
     (if kind == 0x83 then Some (Missing number) else
+    (if kind == 0x84 then Some (Removed number) else
+    (if kind == 0x85 then Some (Absent number) else
     (if kind == 0xE6 then Some (Unsure number) else
-    (if kind == 0xE9 then Some (Malformed number) else None)))
+    (if kind == 0xE8 then Some (StampsSpent number) else
+    (if kind == 0xE9 then Some (Malformed number) else None))))))
 
 -- the reply with this kind and body, but for a Found
 abbrev pub plain_in : ℕ → List ℕ → Option Reply

@@ -3,6 +3,8 @@ ghost use Rattle.kv_frames.specs.Laws.{OneTranscript, WrittenAgain, PartialBegin
 ghost use Rattle.kv_frames.specs.Laws.{MalformedStays};
 ghost use Rattle.kv_frames.specs.Laws.{NextRequest, NextPiece};
 
+use kv_model::{groups_hold_requests, one_grouping};
+
 /// A request has one frame at most, and no request's frame begins another: bytes begin with one
 /// request at most, and it leaves one rest.
 pub fn one_request()
@@ -55,8 +57,11 @@ pub fn one_outcome()
     ensures { OneOutcome }
 {}
 
-/// What a session took and gave, what is left and why it ended tell which requests it handled and
-/// what it replied to each.
+/// What a session took and gave, what is left and why it ended tell which groups of requests it
+/// handled and what it replied to each request.
 pub fn one_transcript()
     ensures { OneTranscript }
-{}
+{
+    groups_hold_requests();
+    one_grouping();
+}

@@ -17,5 +17,9 @@ pub fn own(alloc: Global, view: &RequestView<'_>) -> Result<Request, NoMemory>
         RequestView::Get { key } => Ok(Request::Get {
             key: Bytes::copy(alloc, key)?,
         }),
+        RequestView::Delete { key } => Ok(Request::Delete {
+            key: Bytes::copy(alloc, key)?,
+        }),
+        RequestView::Flush => Ok(Request::Flush),
     }
 }

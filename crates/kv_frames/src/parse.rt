@@ -40,6 +40,8 @@ fn view_request(content: &[u8]) -> Option<RequestView<'_>>
     match content {
         [kind::PUT, key_length, rest @ ..] => view_put(*key_length as usize, rest),
         [kind::GET, key @ ..] => Some(RequestView::Get { key }),
+        [kind::DELETE, key @ ..] => Some(RequestView::Delete { key }),
+        [kind::FLUSH] => Some(RequestView::Flush),
         _ => None,
     }
 }

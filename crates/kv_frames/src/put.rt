@@ -21,6 +21,8 @@ pub fn put_reply(reply: &Reply, out: &mut Vec<u8>) -> Result<(), NoMemory>
             put_frame(&[kind::FOUND], &u64_bytes(*stamp), value.as_slice(), out)
         }
         Reply::Missing { stamp } => put_frame(&[kind::MISSING], &u64_bytes(*stamp), &[], out),
+        Reply::Removed { stamp } => put_frame(&[kind::REMOVED], &u64_bytes(*stamp), &[], out),
+        Reply::Absent { stamp } => put_frame(&[kind::ABSENT], &u64_bytes(*stamp), &[], out),
         Reply::BadKey => put_frame(&[kind::BAD_KEY], &[], &[], out),
         Reply::TooLarge => put_frame(&[kind::TOO_LARGE], &[], &[], out),
         Reply::Full { class } => put_frame(&[kind::FULL, *class], &[], &[], out),
@@ -28,12 +30,13 @@ pub fn put_reply(reply: &Reply, out: &mut Vec<u8>) -> Result<(), NoMemory>
         Reply::DiskFault => put_frame(&[kind::DISK_FAULT], &[], &[], out),
         Reply::Unsure { stamp } => put_frame(&[kind::UNSURE], &u64_bytes(*stamp), &[], out),
         Reply::Closed => put_frame(&[kind::CLOSED], &[], &[], out),
-        Reply::Malformed { offset } => put_frame(
-            &[kind::MALFORMED],
-            &u64_bytes(*offset),
+        Reply::StampsSpent { number } => put_frame(
+            &[kind::STAMPS_SPENT],
+            &u64_bytes(*number),
             &[],
             out,
         ),
+        Reply::Malformed { offset } => put_frame(&[kind::MALFORMED], &u64_bytes(*offset), &[], out),
     }
 }
 
@@ -54,6 +57,8 @@ pub fn put_request(request: &Request, out: &mut Vec<u8>) -> Result<(), NoMemory>
             )
         }
         Request::Get { key } => put_frame(&[kind::GET], &[], key.as_slice(), out),
+        Request::Delete { key } => put_frame(&[kind::DELETE], &[], key.as_slice(), out),
+        Request::Flush => put_frame(&[kind::FLUSH], &[], &[], out),
     }
 }
 

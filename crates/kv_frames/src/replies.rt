@@ -118,7 +118,10 @@ fn stamped_reply(kind: u8, number: u64) -> Option<Reply>
     match kind {
         kind::STORED => Some(Reply::Stored { stamp: number }),
         kind::MISSING => Some(Reply::Missing { stamp: number }),
+        kind::REMOVED => Some(Reply::Removed { stamp: number }),
+        kind::ABSENT => Some(Reply::Absent { stamp: number }),
         kind::UNSURE => Some(Reply::Unsure { stamp: number }),
+        kind::STAMPS_SPENT => Some(Reply::StampsSpent { number }),
         kind::MALFORMED => Some(Reply::Malformed { offset: number }),
         _ => None,
     }

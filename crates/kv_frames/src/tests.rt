@@ -9,6 +9,8 @@ fn seen(bytes: &[u8]) -> (&'static str, usize, usize, usize) {
         Parsed::Whole { request, length } => match request {
             RequestView::Put { key, value } => ("put", key.len(), value.len(), length),
             RequestView::Get { key } => ("get", key.len(), 0, length),
+            RequestView::Delete { key } => ("delete", key.len(), 0, length),
+            RequestView::Flush => ("flush", 0, 0, length),
         },
         Parsed::More => ("more", 0, 0, 0),
         Parsed::Malformed => ("malformed", 0, 0, 0),
@@ -22,7 +24,7 @@ type RequestRow = (
     &'static str,
 );
 
-static REQUESTS: [RequestRow; 20] = [
+static REQUESTS: [RequestRow; 24] = [
     (&[], ("more", 0, 0, 0), "nothing"),
     (&[0], ("more", 0, 0, 0), "one byte of a length"),
     (&[0, 0, 0], ("more", 0, 0, 0), "three bytes of a length"),
@@ -73,12 +75,20 @@ static REQUESTS: [RequestRow; 20] = [
         ("malformed", 0, 0, 0),
         "a key longer than the body",
     ),
-    (&[2, 0, 0, 0, 3, 0x61], ("malformed", 0, 0, 0), "kind 03"),
+    (&[2, 0, 0, 0, 3, 0x61], ("delete", 1, 0, 6), "a Delete"),
+    (&[1, 0, 0, 0, 3], ("delete", 0, 0, 5), "a Delete of no key"),
+    (&[1, 0, 0, 0, 5], ("flush", 0, 0, 5), "a Flush"),
+    (
+        &[2, 0, 0, 0, 5, 0],
+        ("malformed", 0, 0, 0),
+        "a Flush with a body",
+    ),
+    (&[2, 0, 0, 0, 7, 0x61], ("malformed", 0, 0, 0), "kind 07"),
     (&[2, 0, 0, 0, 0, 0x61], ("malformed", 0, 0, 0), "kind 00"),
     (
-        &[2, 0, 0, 0, 3],
+        &[2, 0, 0, 0, 7],
         ("more", 0, 0, 0),
-        "kind 03 but for its last byte",
+        "kind 07 but for its last byte",
     ),
 ];
 
@@ -108,7 +118,12 @@ fn the_longest_frames_are_parsed(rt: HostRuntime) -> Result<(), Fail> {
     Ok(())
 }
 
-static FRAMES: [&[u8]; 2] = [&[4, 0, 0, 0, 1, 1, 0x61, 0x31], &[2, 0, 0, 0, 2, 0x61]];
+static FRAMES: [&[u8]; 4] = [
+    &[4, 0, 0, 0, 1, 1, 0x61, 0x31],
+    &[2, 0, 0, 0, 2, 0x61],
+    &[2, 0, 0, 0, 3, 0x61],
+    &[1, 0, 0, 0, 5],
+];
 
 #[test]
 fn a_request_is_owned_and_written_as_it_came(rt: HostRuntime) -> Result<(), Fail> {
@@ -130,6 +145,8 @@ fn named(reply: &Reply) -> (&'static str, u64, usize) {
         Reply::Stored { stamp } => ("stored", *stamp, 0),
         Reply::Found { stamp, value } => ("found", *stamp, value.len()),
         Reply::Missing { stamp } => ("missing", *stamp, 0),
+        Reply::Removed { stamp } => ("removed", *stamp, 0),
+        Reply::Absent { stamp } => ("absent", *stamp, 0),
         Reply::BadKey => ("bad key", 0, 0),
         Reply::TooLarge => ("too large", 0, 0),
         Reply::Full { class } => ("full", u64::from(*class), 0),
@@ -137,6 +154,7 @@ fn named(reply: &Reply) -> (&'static str, u64, usize) {
         Reply::DiskFault => ("disk fault", 0, 0),
         Reply::Unsure { stamp } => ("unsure", *stamp, 0),
         Reply::Closed => ("closed", 0, 0),
+        Reply::StampsSpent { number } => ("stamps spent", *number, 0),
         Reply::Malformed { offset } => ("malformed", *offset, 0),
     }
 }
@@ -144,7 +162,7 @@ fn named(reply: &Reply) -> (&'static str, u64, usize) {
 /// A frame and the reply that it is.
 type ReplyRow = (&'static [u8], (&'static str, u64, usize));
 
-static REPLIES: [ReplyRow; 12] = [
+static REPLIES: [ReplyRow; 15] = [
     (
         &[9, 0, 0, 0, 0x81, 1, 0, 0, 0, 0, 0, 0, 0],
         ("stored", 1, 0),
@@ -157,6 +175,14 @@ static REPLIES: [ReplyRow; 12] = [
     (
         &[9, 0, 0, 0, 0x83, 1, 0, 0, 0, 0, 0, 0, 0],
         ("missing", 1, 0),
+    ),
+    (
+        &[9, 0, 0, 0, 0x84, 3, 0, 0, 0, 0, 0, 0, 0],
+        ("removed", 3, 0),
+    ),
+    (
+        &[9, 0, 0, 0, 0x85, 4, 0, 0, 0, 0, 0, 0, 0],
+        ("absent", 4, 0),
     ),
     (&[1, 0, 0, 0, 0xE1], ("bad key", 0, 0)),
     (&[1, 0, 0, 0, 0xE2], ("too large", 0, 0)),
@@ -171,6 +197,11 @@ static REPLIES: [ReplyRow; 12] = [
         ("unsure", 4_611_686_018_427_387_903, 0),
     ),
     (&[1, 0, 0, 0, 0xE7], ("closed", 0, 0)),
+    // 2^62, the first number that is no stamp.
+    (
+        &[9, 0, 0, 0, 0xE8, 0, 0, 0, 0, 0, 0, 0, 0x40],
+        ("stamps spent", 4_611_686_018_427_387_904, 0),
+    ),
     (
         &[9, 0, 0, 0, 0xE9, 8, 0, 0, 0, 0, 0, 0, 0],
         ("malformed", 8, 0),
@@ -192,21 +223,8 @@ fn replies_are_read_and_written_by_the_table_of_kinds(rt: HostRuntime) -> Result
     Ok(())
 }
 
-#[test]
-fn a_found_goes_out_with_its_value(rt: HostRuntime) -> Result<(), Fail> {
-    let value = Bytes::copy(rt.alloc(), b"1").ok().ok_or("memory is there")?;
-    let mut out = Vec::new(rt.alloc());
-    let found = Reply::Found { stamp: 2, value };
-    put_reply(&found, &mut out).ok().ok_or("memory is there")?;
-    assert_eq!(rt;
-        out.as_slice(),
-        b"\x0A\0\0\0\x82\x02\0\0\0\0\0\0\x001".as_slice()
-    );
-    Ok(())
-}
-
 /// Bytes that no reply begins, and whether more of them decide.
-static NO_REPLIES: [(&[u8], bool); 8] = [
+static NO_REPLIES: [(&[u8], bool); 9] = [
     (&[9, 0, 0, 0, 0x81, 1, 0, 0, 0, 0, 0, 0], true),
     (&[9, 0, 0], true),
     (&[0, 0, 0, 0], false),
@@ -214,6 +232,7 @@ static NO_REPLIES: [(&[u8], bool); 8] = [
     (&[8, 0, 0, 0, 0x82, 1, 0, 0, 0, 0, 0, 0], false),
     (&[2, 0, 0, 0, 0xE1, 0], false),
     (&[1, 0, 0, 0, 0xE3], false),
+    (&[1, 0, 0, 0, 0xE8], false),
     (&[1, 0, 0, 0, 1], false),
 ];
 

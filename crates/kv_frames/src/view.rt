@@ -13,6 +13,13 @@ pub enum RequestView<'a> {
         /// The key, of any length that a frame has room for.
         key: &'a [u8],
     },
+    /// Removes the value of the key.
+    Delete {
+        /// The key, of any length that a frame has room for.
+        key: &'a [u8],
+    },
+    /// Ends a group of requests.
+    Flush,
 }
 
 /// What bytes of requests begin with.

@@ -1,11 +1,11 @@
 -- Lemmas on frames.
-use Rattle.std.proofs.Common.{◌≡◌, ℕ, ◌+◌, ◌^◌, ◌<◌, ◌≤◌, List, [], ◌++◌, length, take, refl, sym}
-use Rattle.std.proofs.Common.{ap, ◌∙◌, arith, length-append, lit≤, append_assoc}
+use Rattle.std.proofs.Common.{◌≡◌, ℕ, ◌+◌, ◌≤◌, List, ◌++◌, length, take, refl}
+use Rattle.std.proofs.Common.{ap, ◌∙◌, arith, length-append, append_assoc}
 use Rattle.std.proofs.lemmas.List.{take_at}
 use Rattle.std.proofs.lemmas.Nat.{from_le_bytes-to_le_bytes_4}
 use Rattle.std.specs.Int.{w32, to_le_bytes, from_le_bytes}
 use Rattle.kv_model.specs.Frames.{framed, stated_length, request_frame, request_content}
-use Rattle.kv_model.specs.Frames.{BeginsWithRequest, BeginsWithNoRequest, IsPartial}
+use Rattle.kv_model.specs.Frames.{BeginsWithNoRequest, IsPartial}
 
 -- a frame's length is read back from its first four bytes
 pub stated_length-framed : (content rest : List ℕ) → length content ≤ 66000

@@ -1,6 +1,6 @@
 -- Replies that are those of one plain map, whose history is read at each reply's stamp.
 use Rattle.std.specs.Prelude.{◌≡◌, ◌≢◌, ℕ, ◌-◌, ◌^◌, ◌<◌, List, ◌++◌, length, Option, None, Some}
-use Rattle.std.specs.Prelude.{Bool, IsTrue, MatchOption, is_some, if◌then◌else◌, ⊤}
+use Rattle.std.specs.Prelude.{[], Bool, IsTrue, MatchOption, is_some, if◌then◌else◌, ⊤}
 use Rattle.std.specs.List.{AllByRecursion}
 use Rattle.kv_base.specs.declared.request.Request.{Request}
 use Rattle.kv_base.specs.declared.request.Request.TheVariants.{Put, Get, Delete, Flush}
@@ -28,6 +28,11 @@ refusal_of layout Flush = None
 abbrev pub IsRead : Bool → Option (List ℕ) → List ℕ → Type 0
 IsRead told None value = ⊥
 IsRead told (Some kept) value = IsTrue told → value ≡ kept
+
+-- what is told of a reply: not the bytes of a value where the disk doesn't tell its content
+abbrev pub told_of : Bool → Reply → Reply
+told_of told (Found stamp value) = Found stamp (if told then value else [])
+told_of told reply = reply
 
 -- the reply to a request of good sizes is the map's, or a refusal that such a request may get
 abbrev pub IsMapAnswer : Bool → Layout → List Write → Request → Reply → Type 0

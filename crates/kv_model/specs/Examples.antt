@@ -1,15 +1,13 @@
 -- Worked examples: the bytes are written by hand from the documents of the formats.
-use Rattle.std.specs.Prelude.{◌≡◌, ℕ, List, [], ◌∷◌, ◌++◌, Option, None, Some, replicate, true}
+use Rattle.std.specs.Prelude.{◌≡◌, ℕ, List, [], ◌∷◌, ◌++◌, replicate, true}
 use Rattle.kv_base.specs.declared.request.Request.{Request}
-use Rattle.kv_base.specs.declared.request.Request.TheVariants.{Put, Get}
+use Rattle.kv_base.specs.declared.request.Request.TheVariants.{Put, Get, Flush}
 use Rattle.kv_base.specs.declared.reply.Reply.{Reply}
 use Rattle.kv_base.specs.declared.reply.Reply.TheVariants.{Stored, Found, Missing, BadKey}
 use Rattle.kv_base.specs.declared.cause.Cause.TheVariants.{End, Malformed, SinkFault}
-use Rattle.kv_model.specs.Layout.{all_classes, only_class}
 use Rattle.kv_model.specs.Pairs.{Pair}
-use Rattle.kv_model.specs.Agreement.{AgreesWithMap}
-use Rattle.kv_model.specs.Order.{RespectsOrder}
-use Rattle.kv_model.specs.Transcript.{HasTranscript}
+use Rattle.kv_model.specs.Groups.{groups_of}
+use Rattle.kv_model.specs.Transcript.{HasTranscript, HasTranscriptSoFar}
 
 -- the key a
 abbrev pub key_a : List ℕ
@@ -31,6 +29,10 @@ put_a_bytes = 4 ∷ 0 ∷ 0 ∷ 0 ∷ 1 ∷ 1 ∷ 0x61 ∷ 0x31 ∷ []
 abbrev pub get_a_bytes : List ℕ
 get_a_bytes = 2 ∷ 0 ∷ 0 ∷ 0 ∷ 2 ∷ 0x61 ∷ []
 
+-- the frame of Flush
+abbrev pub flush_bytes : List ℕ
+flush_bytes = 1 ∷ 0 ∷ 0 ∷ 0 ∷ 5 ∷ []
+
 -- the frame of Stored 1
 abbrev pub stored_1_bytes : List ℕ
 stored_1_bytes = 9 ∷ 0 ∷ 0 ∷ 0 ∷ 0x81 ∷ 1 ∷ 0 ∷ 0 ∷ 0 ∷ 0 ∷ 0 ∷ 0 ∷ 0 ∷ []
@@ -47,53 +49,66 @@ missing_1_bytes = 9 ∷ 0 ∷ 0 ∷ 0 ∷ 0x83 ∷ 1 ∷ 0 ∷ 0 ∷ 0 ∷ 0 ∷
 abbrev pub malformed_8_bytes : List ℕ
 malformed_8_bytes = 9 ∷ 0 ∷ 0 ∷ 0 ∷ 0xE9 ∷ 8 ∷ 0 ∷ 0 ∷ 0 ∷ 0 ∷ 0 ∷ 0 ∷ 0 ∷ []
 
+-- Get a
+abbrev pub get_a : Request
+get_a = Get key_a
+
+-- the pair of a request and its reply
+abbrev pub pair_of : Request → Reply → Pair
+pair_of request reply = record { request = request; reply = reply }
+
+-- a put and a get of one group, answered
+abbrev pub put_and_get : List Pair
+put_and_get = pair_of put_a (Stored 1) ∷ pair_of get_a (Found 2 value_1) ∷ []
+
 -- a put and a get, answered
 abbrev pub PutAndGet : Type 0
 PutAndGet = HasTranscript (put_a_bytes ++ get_a_bytes) true (stored_1_bytes ++ found_2_bytes) [] End
-    (put_a ∷ Get key_a ∷ []) (Stored 1 ∷ Found 2 value_1 ∷ [])
+    (put_and_get ∷ [])
 
 -- a get of a key that has no value
 abbrev pub GetOfNothing : Type 0
-GetOfNothing = HasTranscript get_a_bytes true missing_1_bytes [] End (Get key_a ∷ []) (Missing 1
-    ∷ [])
+GetOfNothing = HasTranscript get_a_bytes true missing_1_bytes [] End
+    ((pair_of get_a (Missing 1) ∷ []) ∷ [])
 
 -- a put with an empty key is refused, and the put behind it has the first stamp
 abbrev pub RefusedThenPut : Type 0
 RefusedThenPut = HasTranscript ((3 ∷ 0 ∷ 0 ∷ 0 ∷ 1 ∷ 0 ∷ 0x31 ∷ []) ++ put_a_bytes) true
-    ((1 ∷ 0 ∷ 0 ∷ 0 ∷ 0xE1 ∷ []) ++ stored_1_bytes) [] End (Put [] value_1 ∷ put_a ∷ [])
-    (BadKey ∷ Stored 1 ∷ [])
+    ((1 ∷ 0 ∷ 0 ∷ 0 ∷ 0xE1 ∷ []) ++ stored_1_bytes) [] End
+    ((pair_of (Put [] value_1) BadKey ∷ pair_of put_a (Stored 1) ∷ []) ∷ [])
 
 -- the input ends inside the second frame
 abbrev pub CutInside : Type 0
 CutInside = HasTranscript (put_a_bytes ++ 4 ∷ 0 ∷ 0 ∷ 0 ∷ 1 ∷ 1 ∷ []) true (stored_1_bytes
-    ++ malformed_8_bytes) [] (Malformed 8) (put_a ∷ []) (Stored 1 ∷ [])
+    ++ malformed_8_bytes) [] (Malformed 8) ((pair_of put_a (Stored 1) ∷ []) ∷ [])
 
--- the sink took the first reply and failed at the second
+-- the sink took the first reply of the last group and failed at the second
 abbrev pub SinkFails : Type 0
 SinkFails = HasTranscript (put_a_bytes ++ get_a_bytes) true stored_1_bytes (Found 2 value_1 ∷ [])
-    SinkFault (put_a ∷ Get key_a ∷ []) (Stored 1 ∷ Found 2 value_1 ∷ [])
+    SinkFault (put_and_get ∷ [])
 
--- the pairs of a put and a get
-abbrev pub put_and_get : List Pair
-put_and_get = record { request = put_a; reply = Stored 1 } ∷ record {
-  request = Get key_a;
-  reply = Found 2 value_1;
-} ∷ []
+-- the sink failed at the reply to the group before a flush, and the get behind that isn't handled
+abbrev pub SinkFailsBeforeTheEnd : Type 0
+SinkFailsBeforeTheEnd = HasTranscript (put_a_bytes ++ flush_bytes ++ get_a_bytes) true []
+    (Stored 1 ∷ []) SinkFault ((pair_of put_a (Stored 1) ∷ []) ∷ [])
 
--- a put and a get behind it that say the opposite of what was written
-abbrev pub get_and_put : Pair × Pair
-get_and_put = (
-  record { request = put_a; reply = Stored 2 },
-  record {
-    request = Get key_a;
-    reply = Missing 1;
-  },
-)
+-- a put and a get in two groups, answered while the session goes on
+abbrev pub GoesOn : Type 0
+GoesOn = HasTranscriptSoFar (put_a_bytes ++ flush_bytes ++ get_a_bytes ++ flush_bytes ++ 2 ∷ [])
+    (stored_1_bytes ++ found_2_bytes)
+    ((pair_of put_a (Stored 1) ∷ []) ∷ (pair_of get_a (Found 2 value_1) ∷ []) ∷ [])
 
--- stamps that fall are in no session's order, neither in one group nor in two
-abbrev pub StampsRise : Type 0
-StampsRise = (RespectsOrder ((get_and_put.0 ∷ get_and_put.1 ∷ []) ∷ []) → ⊥)
-    × (RespectsOrder ((get_and_put.0 ∷ []) ∷ (get_and_put.1 ∷ []) ∷ []) → ⊥)
+-- 64 requests are a group, and what comes behind them begins another; a flush ends a group and is
+-- in none
+pub record GroupsEnd : Type 0 where
+  pub full : groups_of (replicate 64 get_a)
+      ≡ record { ended = replicate 64 get_a ∷ []; current = [] }
+  pub one_more : groups_of (replicate 65 get_a)
+      ≡ record { ended = replicate 64 get_a ∷ []; current = get_a ∷ [] }
+  pub flushed : groups_of (put_a ∷ Flush ∷ Flush ∷ get_a ∷ [])
+      ≡ record { ended = (put_a ∷ []) ∷ []; current = get_a ∷ [] }
+  pub flush_counts_not : groups_of (Flush ∷ replicate 64 get_a ++ Flush ∷ [])
+      ≡ record { ended = replicate 64 get_a ∷ []; current = [] }
 
 -- a slot of class 1 with a at stamp 258 and the value 1
 abbrev pub slot_a : List ℕ

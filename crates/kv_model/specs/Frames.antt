@@ -138,7 +138,12 @@ pub record BeginsWithRequests (bytes : List ℕ) (requests : List Request)
 abbrev pub SplitsInto : List ℕ → List Request → List ℕ → Type 0
 SplitsInto bytes requests rest = BeginsWithRequests bytes requests rest × BeginsWithNoRequest rest
 
--- what is left is bad: it is malformed, or the input ended behind at least one byte of it
+-- at least one byte is left, and no request begins there
+pub record IsCut (rest : List ℕ) : Type 0 where
+  pub some : 1 ≤ length rest
+  pub none : BeginsWithNoRequest rest
+
+-- what is left is bad: it is malformed, or the input ended behind it, before a whole frame
 abbrev pub IsBad : List ℕ → Bool → Type 0
 IsBad rest false = IsMalformed rest
-IsBad rest true = 1 ≤ length rest
+IsBad rest true = IsCut rest

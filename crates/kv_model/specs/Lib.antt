@@ -2,6 +2,7 @@ pub mod Pairwise
 pub mod History
 pub mod Layout
 pub mod Pairs
+pub mod Groups
 pub mod Agreement
 pub mod Order
 pub mod Frames
@@ -9,9 +10,17 @@ pub mod Transcript
 pub mod Padding
 pub mod Slots
 pub mod SlotBytes
+pub mod Fold
 pub mod Head
+pub mod Batch
+pub mod Items
+pub mod BatchLaws
+pub mod FreeSlots
 pub mod Reading
 pub mod Recovery
+pub mod Lookup
 pub mod Oracle
 pub mod Examples
 pub mod Survey
+pub mod BatchExamples
+pub mod RecoveryExamples

@@ -1,6 +1,6 @@
 -- Requests with their replies, and the writes that they stand for.
-use Rattle.std.specs.Prelude.{ℕ, List, Option, None, Some}
-use Rattle.std.specs.List.{filter_map}
+use Rattle.std.specs.Prelude.{ℕ, List, map, Option, None, Some}
+use Rattle.std.specs.List.{filter_map, flat_map}
 use Rattle.kv_base.specs.declared.request.Request.{Request}
 use Rattle.kv_base.specs.declared.request.Request.TheVariants.{Put, Get, Delete, Flush}
 use Rattle.kv_base.specs.declared.reply.Reply.{Reply}
@@ -95,3 +95,15 @@ unsure_writes pairs = filter_map (λ pair. unsure_by pair.request pair.reply) pa
 -- the stamps of the replies, in the order of the pairs
 abbrev pub stamps : List Pair → List ℕ
 stamps pairs = filter_map (λ pair. stamp_of pair.reply) pairs
+
+-- the requests of a group of pairs
+abbrev pub requests_of : List Pair → List Request
+requests_of group = map (λ pair. pair.request) group
+
+-- the pairs of all groups, one behind the other
+abbrev pub pairs_in : List (List Pair) → List Pair
+pairs_in groups = flat_map (λ group. group) groups
+
+-- the replies to all groups, one behind the other
+abbrev pub replies_in : List (List Pair) → List Reply
+replies_in groups = map (λ pair. pair.reply) (pairs_in groups)

@@ -1,18 +1,15 @@
 -- What recovery owes: an image that opens, and gives each key the value after a prefix of its
 -- writes.
-use Rattle.std.specs.Prelude.{◌≡◌, ℕ, ◌*◌, ◌/◌, ◌^◌, ◌≤◌, ◌⊎◌, List, Option, None, Some, IsTrue}
+use Rattle.std.specs.Prelude.{◌≡◌, ℕ, ◌*◌, ◌/◌, ◌≤◌, ◌⊎◌, List, Option, None, Some, IsTrue}
 use Rattle.std.specs.Prelude.{if◌then◌else◌}
 use Rattle.std.specs.List.{AllByRecursion}
 use Rattle.kv_base.specs.Image.{Image, zero_page}
+pub use Rattle.kv_base.specs.Limits.{most_slots}
 use Rattle.kv_base.specs.Partition.{owner_of}
 use Rattle.kv_model.specs.History.{Write, value_at}
 use Rattle.kv_model.specs.Layout.{Layout, is_small, slots_in_page, pages_in_slot}
 use Rattle.kv_model.specs.Head.{IsWorker, head_page}
 use Rattle.kv_model.specs.Reading.{Reading, Copy, IsFound, IsKept, slot_at, has_class}
-
--- the most slots of a class
-abbrev pub most_slots : ℕ
-most_slots = 2 ^ 24
 
 -- the pages of the most slots of the class
 abbrev pub most_pages : ℕ → ℕ

@@ -4,6 +4,7 @@ use Rattle.std.specs.Prelude.{Some, ◌==◌, if◌then◌else◌}
 use Rattle.std.specs.List.{range_with_len}
 use Rattle.std.specs.Int.{w16, w32, w64, to_le_bytes}
 use Rattle.kv_model.specs.Layout.{is_small, slot_size, page_size, pages_in_slot}
+use Rattle.kv_model.specs.Layout.{first_page_room, later_page_room}
 use Rattle.kv_model.specs.Padding.{padded}
 
 -- a header: stamp, kind, key length, and the value length or the link
@@ -23,9 +24,10 @@ item_bytes class stamp key value = padded (slot_size class) (item_header stamp k
 -- a page of a slot of the classes 8 to 11 with this item, the first being 0
 unfoldable pub large_page : ℕ → List ℕ → List ℕ → ℕ → List ℕ
 large_page stamp key value page =
-    if page == 0 then padded page_size (item_header stamp key value ++ take 4080 (key ++ value))
-    else padded page_size (to_le_bytes w64 stamp ++ take 4088 (drop (4080 + 4088 * (page - 1))
-    (key ++ value)))
+    if page == 0
+    then padded page_size (item_header stamp key value ++ take first_page_room (key ++ value))
+    else padded page_size (to_le_bytes w64 stamp ++ take later_page_room
+    (drop (first_page_room + later_page_room * (page - 1)) (key ++ value)))
 
 -- all pages of a slot of the classes 8 to 11 with this item
 abbrev pub large_pages : ℕ → ℕ → List ℕ → List ℕ → List (List ℕ)

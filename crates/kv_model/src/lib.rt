@@ -1,12 +1,25 @@
 //! Definitions that the store is proved against, and the plain program that answers by them.
 #![tactic(auto)]
 
+mod batch;
+mod class;
+mod found;
+mod item;
+mod lasts;
 mod latest;
 mod laws;
+mod lookup;
 mod oracle;
+mod range;
 #[cfg(test)]
 mod tests;
 mod write;
 
-pub use laws::stamps_rise;
+pub use item::{Item, ItemList};
+pub use laws::{
+    acknowledged_writes_read_as_all, answers_agree_with_one_map, classes_are_least,
+    groups_hold_requests, items_are_one, layouts_rise, net_has_one_write_per_key, net_reads_as_all,
+    old_or_new_is_a_prefix, one_answer, one_grouping, stamps_follow_requests, stamps_rise,
+    store_follows_history, told_answers_agree_with_one_map,
+};
 pub use oracle::Oracle;

@@ -1,9 +1,15 @@
-ghost use Rattle.std.specs.Prelude.{◌≡◌, [], ◌∷◌, ◌++◌, OnOk, OnErr};
+ghost use Rattle.std.specs.Prelude.{◌≡◌, ◌+◌, ◌^◌, ◌≤◌, [], ◌∷◌, ◌++◌, length, OnOk, OnErr, IfOk};
 ghost use Rattle.std.specs.Option.{option_copied};
 
+use crate::batch::answer_all;
+use crate::found::Found;
+use crate::item::ItemList;
+use crate::lasts::net;
 use crate::latest::{find_latest, value_of};
-use crate::write::Recorded;
-use kv_base::{Bytes, NoMemory};
+use crate::lookup::Asked;
+use crate::range::items_at;
+use crate::write::{Recorded, record};
+use kv_base::{NoMemory, Replies, Request};
 use std::alloc::Global;
 use std::marker::Model;
 
@@ -28,6 +34,8 @@ impl Model for Oracle {
 
 impl Oracle {
     ghost use Rattle.kv_model.specs.History.{value_at};
+    ghost use Rattle.kv_model.specs.Items.{AreItems, AnswersBatch};
+    ghost use Rattle.kv_model.specs.Oracle.{items_of};
 
     /// No write so far.
     pub fn new(alloc: Global) -> Oracle
@@ -49,13 +57,7 @@ impl Oracle {
         } ∷ []) }
         ensures err { OnErr result (self.new ≡ self.old) }
     {
-        let key = Bytes::copy(self.alloc, key)?;
-        let value = match value {
-            None => None,
-            Some(value) => Some(Bytes::copy(self.alloc, value)?),
-        };
-        self.writes.push(Recorded { stamp, key, value })?;
-        Ok(())
+        record(self.alloc, &mut self.writes, stamp, key, value)
     }
 
     /// What the key has at the stamp: the value of its write with the greatest stamp not above
@@ -64,5 +66,36 @@ impl Oracle {
         ensures { option_copied result ≡ value_at self.now stamp key.now }
     {
         value_of(find_latest(&self.writes, stamp, key))
+    }
+    /// The items of the keys at or after `low` and below `high` at the stamp, by rising key; an
+    /// empty `high` is no end. The one error is want of memory.
+    pub fn items_at(&self, stamp: u64, low: &[u8], high: &[u8]) -> Result<ItemList, NoMemory>
+        ensures { IfOk result (λ list. AreItems self.now stamp low.now high.now
+            (items_of list.items)) }
+    {
+        items_at(self.alloc, &self.writes, Asked { stamp, low, high })
+    }
+    /// Answers a batch of requests, of which the first has the stamp `base` and where a class has
+    /// `limit` items at most, and takes the batch's net changes in. The one error is want of
+    /// memory, and then the list is as before.
+    pub fn step(&mut self, requests: &[Request], base: u64, limit: u32) -> Result<Replies, NoMemory>
+        requires stamps { base + length requests.now ≤ 2 ^ 62 }
+        ensures answered { IfOk result (λ replies. AnswersBatch self.old self.new base limit
+            requests.now replies.items) }
+        ensures kept { OnErr result (self.new ≡ self.old) }
+    {
+        let stamp = base.saturating_sub(1);
+        let items = self.items_at(stamp, b"", b"")?;
+        let found = Found {
+            writes: &self.writes,
+            stamp,
+            items: items.as_slice(),
+            limit,
+        };
+        let mut written = Vec::new(self.alloc);
+        let replies = answer_all(self.alloc, found, &mut written, base, requests)?;
+        let mut changes = net(self.alloc, found, &written)?;
+        self.writes.append(&mut changes)?;
+        Ok(replies)
     }
 }

@@ -5,13 +5,15 @@ use Rattle.std.proofs.Common.{◌∷◌, ◌++◌, map, Option, None, Some, IfSo
 use Rattle.std.proofs.Common.{sym, ap, subst, ◌∙◌, arith, append_assoc, ◌||◌}
 use Rattle.std.specs.List.{AllByRecursion, cons_option}
 use Rattle.std.specs.Option.{option_to_list}
+use Rattle.std.proofs.lemmas.Bool.{false≢true}
 use Rattle.std.proofs.lemmas.List.{append-nil}
 use Rattle.kv_base.specs.declared.request.Request.{Request}
-use Rattle.kv_base.specs.declared.request.Request.TheVariants.{Put, Get}
+use Rattle.kv_base.specs.declared.request.Request.TheVariants.{Put, Get, Delete, Flush}
 use Rattle.kv_base.specs.declared.reply.Reply.{Reply}
-use Rattle.kv_base.specs.declared.reply.Reply.TheVariants.{Stored, Found, Missing, BadKey, TooLarge}
-use Rattle.kv_base.specs.declared.reply.Reply.TheVariants.{Full, NoMemory, DiskFault, Unsure}
-use Rattle.kv_base.specs.declared.reply.Reply.TheVariants.{Closed, Malformed}
+use Rattle.kv_base.specs.declared.reply.Reply.TheVariants.{Stored, Found, Missing, Removed, Absent}
+use Rattle.kv_base.specs.declared.reply.Reply.TheVariants.{BadKey, TooLarge, Full, NoMemory}
+use Rattle.kv_base.specs.declared.reply.Reply.TheVariants.{DiskFault, Unsure, Closed, StampsSpent}
+use Rattle.kv_base.specs.declared.reply.Reply.TheVariants.{Malformed}
 use Rattle.kv_disk.specs.declared.disk.Disk.{Ghosts}
 use Rattle.kv_model.specs.Pairwise.{Pairwise}
 use Rattle.kv_model.specs.History.{Write}
@@ -20,7 +22,8 @@ use Rattle.kv_model.specs.Pairs.{Pair, acknowledged_by, key_of, stamp_of, stamps
 use Rattle.kv_model.specs.Agreement.{IsAnswer, IsMapAnswer, refusal_of}
 use Rattle.kv_model.specs.Order.{IsAfter, Rises}
 use Rattle.kv_serve.specs.Causes.{RoseBy, is_unsure, any_unsure, faults_told, faults_of}
-use Rattle.kv_serve.specs.Causes.{CountsStamps, faults_behind_all}
+use Rattle.kv_serve.specs.Causes.{CountsStamps, faults_behind_all, IsPlain}
+use Rattle.kv_serve.specs.Transcript.{is_served}
 use Rattle.kv_serve.specs.Causes.{ClosesBehindUnsure, AreFullAtLimit}
 use Rattle.kv_serve.specs.Store.{Holds, Steps, IsDurable, OthersStay}
 use Rattle.kv_serve.specs.Run.{Runs}
@@ -155,6 +158,8 @@ put_answer : (told : Bool) (history more : List Write) (key value : List ℕ) (r
 put_answer told history more key value (Stored stamp) h = h
 put_answer told history more key value (Found stamp found) h = h
 put_answer told history more key value (Missing stamp) h = h
+put_answer told history more key value (Removed stamp) h = h
+put_answer told history more key value (Absent stamp) h = h
 put_answer told history more key value BadKey h = h
 put_answer told history more key value TooLarge h = h
 put_answer told history more key value (Full class) h = h
@@ -162,6 +167,7 @@ put_answer told history more key value NoMemory h = h
 put_answer told history more key value DiskFault h = h
 put_answer told history more key value (Unsure stamp) h = h
 put_answer told history more key value Closed h = h
+put_answer told history more key value (StampsSpent number) h = h
 put_answer told history more key value (Malformed offset) h = h
 
 -- the answer to a get stays where later writes have greater stamps
@@ -174,6 +180,8 @@ get_answer told history more key (Found stamp found) later h =
     rw (value_at-later history more stamp key later) h
 get_answer told history more key (Missing stamp) later h =
     rw (value_at-later history more stamp key later) h
+get_answer told history more key (Removed stamp) later h = h
+get_answer told history more key (Absent stamp) later h = h
 get_answer told history more key BadKey later h = h
 get_answer told history more key TooLarge later h = h
 get_answer told history more key (Full class) later h = h
@@ -181,6 +189,7 @@ get_answer told history more key NoMemory later h = h
 get_answer told history more key DiskFault later h = h
 get_answer told history more key (Unsure stamp) later h = h
 get_answer told history more key Closed later h = h
+get_answer told history more key (StampsSpent number) later h = h
 get_answer told history more key (Malformed offset) later h = h
 
 -- a get writes nothing
@@ -188,6 +197,8 @@ get_silent : (key : List ℕ) (reply : Reply) → acknowledged_by (Get key) repl
 get_silent key (Stored stamp) = refl
 get_silent key (Found stamp value) = refl
 get_silent key (Missing stamp) = refl
+get_silent key (Removed stamp) = refl
+get_silent key (Absent stamp) = refl
 get_silent key BadKey = refl
 get_silent key TooLarge = refl
 get_silent key (Full class) = refl
@@ -195,21 +206,25 @@ get_silent key NoMemory = refl
 get_silent key DiskFault = refl
 get_silent key (Unsure stamp) = refl
 get_silent key Closed = refl
+get_silent key (StampsSpent number) = refl
 get_silent key (Malformed offset) = refl
 
 -- an answer stays where later writes have greater stamps
 answer_later : (told : Bool) (history more : List Write) (request : Request) (reply : Reply)
+    → IsTrue (is_served request)
     → IfSome (stamp_of reply) (λ stamp. AllByRecursion (λ write. stamp < write.stamp) more)
     → IsAnswer told (only_class 7) history request reply
     → IsAnswer told (only_class 7) (history ++ cons_option (acknowledged_by request reply) more)
     request reply
-answer_later told history more (Put key value) reply later h =
+answer_later told history more (Put key value) reply served later h =
     match_more (refusal_of (only_class 7) (Put key value)) _ _ (λ refusal. reply ≡ refusal)
     (put_answer told history (history ++ cons_option (acknowledged_by (Put key value) reply)
     more) key value reply) h
-answer_later told history more (Get key) reply later h =
+answer_later told history more (Get key) reply served later h =
     rw (get_silent key reply) (match_more (refusal_of (only_class 7) (Get key)) _ _
     (λ refusal. reply ≡ refusal) (get_answer told history more key reply later) h)
+answer_later told history more (Delete key) reply served later h = absurd (false≢true served)
+answer_later told history more Flush reply served later h = absurd (false≢true served)
 
 -- what is acknowledged has the reply's stamp
 acknowledged_from : (low : ℕ) (request : Request) (reply : Reply)
@@ -217,8 +232,15 @@ acknowledged_from : (low : ℕ) (request : Request) (reply : Reply)
     → IfSome (acknowledged_by request reply) (λ write. low ≤ write.stamp)
 acknowledged_from low (Put key value) (Stored stamp) h = h
 acknowledged_from low (Get key) (Stored stamp) h = tt
+acknowledged_from low (Delete key) (Stored stamp) h = h
+acknowledged_from low Flush (Stored stamp) h = tt
 acknowledged_from low request (Found stamp value) h = tt
 acknowledged_from low request (Missing stamp) h = tt
+acknowledged_from low (Put key value) (Removed stamp) h = h
+acknowledged_from low (Get key) (Removed stamp) h = tt
+acknowledged_from low (Delete key) (Removed stamp) h = h
+acknowledged_from low Flush (Removed stamp) h = tt
+acknowledged_from low request (Absent stamp) h = tt
 acknowledged_from low request BadKey h = tt
 acknowledged_from low request TooLarge h = tt
 acknowledged_from low request (Full class) h = tt
@@ -226,6 +248,7 @@ acknowledged_from low request NoMemory h = tt
 acknowledged_from low request DiskFault h = tt
 acknowledged_from low request (Unsure stamp) h = tt
 acknowledged_from low request Closed h = tt
+acknowledged_from low request (StampsSpent number) h = tt
 acknowledged_from low request (Malformed offset) h = tt
 
 some_first : (P Q : ℕ → Type 0) (o : Option ℕ) → ((n : ℕ) → P n → Q n) → IfSome o P → IfSome o Q
@@ -301,7 +324,7 @@ module _ {D : Type 0} {d : Ghosts D} where
   run_answers [] old new history h runs = tt
   run_answers (pair ∷ pairs) old new history h runs =
       let later = run_writes pairs runs.0 new runs.2 in (
-        answer_later d.tells history (writes pairs) pair.request pair.reply
+        answer_later d.tells history (writes pairs) pair.request pair.reply runs.1.served
             (some_first _ _ (stamp_of pair.reply) (λ n k. writes_behind n runs.0.next (writes pairs)
             k.1 later) runs.1.stamped) (runs.1.answers history h),
         subst (λ all. AllByRecursion (λ other. IsAnswer d.tells (only_class 7) all other.request
@@ -320,6 +343,11 @@ module _ {D : Type 0} {d : Ghosts D} where
     run_full pairs runs.0 new (history ++ option_to_list (acknowledged_by pair.request pair.reply))
         (runs.1.holds history h) runs.2,
   )
+
+  run_plain : (pairs : List Pair) (old new : Store D d) → Runs Steps old pairs new
+      → AllByRecursion (λ pair. IsPlain pair.request pair.reply) pairs
+  run_plain [] old new runs = tt
+  run_plain (pair ∷ pairs) old new runs = (runs.1.plain, run_plain pairs runs.0 new runs.2)
 
   run_closes : (pairs : List Pair) (old new : Store D d) → Runs Steps old pairs new
       → ClosesBehindUnsure (only_class 7) old.closed pairs
@@ -396,6 +424,7 @@ module _ {D : Type 0} {d : Ghosts D} where
           fresh = nothing_before (stamps pairs);
           replies = run_answers pairs old new [] h runs;
         };
+        plain = run_plain pairs old new runs;
         ordered = record {
           across = across_singles pairs old.next new.next rises;
           within = within_singles pairs;

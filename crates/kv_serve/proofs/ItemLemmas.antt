@@ -56,9 +56,9 @@ pub reads-item_bytes : ItemsReadAgain → (stamp : ℕ) (key value : List ℕ) �
     → class_of (only_class 7) (length key) (length value) ≡ Some 7
     → length key + length value ≤ 4080 → ReadsItem (item_bytes 7 stamp key value) stamp key value
 reads-item_bytes again stamp key value small is fits =
-  rw (take_all 4096 (item_bytes 7 stamp key value)
-      (omega (arith, length-item_bytes stamp key value fits))) (again (only_class 7) 7 stamp key
-      value (omega arith) small is)
+    rw (take_all 4096 (item_bytes 7 stamp key value)
+    (omega (arith, length-item_bytes stamp key value fits))) (again (only_class 7) 7 stamp key
+    value (omega arith) small is)
 
 -- a write to the class's file, done or not, leaves each other page
 pub others_stay-written : (old new : Image) (page : ℕ) (content : List ℕ)

@@ -1,6 +1,7 @@
 -- Lemmas on what a session did.
 use Rattle.std.proofs.Common.{◌≡◌, ◌≢◌, ℕ, ◌+◌, ◌^◌, ◌<◌, ◌≤◌, Bool, true, List, [], ◌∷◌, ◌++◌}
 use Rattle.std.proofs.Common.{length, drop, Result, Ok, Err, OnOk, IfErr, MatchResult, inl, inr}
+use Rattle.std.proofs.Common.{IsTrue}
 use Rattle.std.proofs.Common.{refl, sym, ap, subst, ◌∙◌, arith, append_assoc, length-append}
 use Rattle.std.specs.List.{AllByRecursion, flat_map}
 use Rattle.std.proofs.lemmas.List.{append-nil}
@@ -18,12 +19,13 @@ use Rattle.kv_base.specs.Stream.{Passes, IsSpent, Takes}
 use Rattle.kv_model.specs.Pairs.{Pair}
 use Rattle.kv_model.specs.Frames.{HasRequestFrame, request_frame, HasReplyFrame, reply_frame}
 use Rattle.kv_model.specs.Frames.{BeginsWithRequest, BeginsWithRequests}
-use Rattle.kv_model.specs.Transcript.{GoesOut, ClosesMalformed, Closes, Leaves}
+use Rattle.kv_model.specs.Transcript.{GoesOut, Leaves}
 use Rattle.kv_frames.specs.Parse.{IsWhole}
 use Rattle.kv_serve.specs.declared.fill.Ready.{Ready}
 use Rattle.kv_serve.specs.declared.fill.Ready.TheVariants as ready
 use Rattle.kv_serve.specs.Session.{SessionState, IsReady, IsNew, Arrives, IsAtEnd, IsStuck, GoesOn}
 use Rattle.kv_serve.specs.Session.{KeepsTaken, TakesPart}
+use Rattle.kv_serve.specs.Transcript.{is_served, ClosesMalformed, Closes}
 use Rattle.kv_serve.specs.Run.{Streams, pairs_of, Runs, Answers, AnswersAll, EndsBy, Ends}
 use Rattle.kv_serve.proofs.SessionLemmas.{Passes-nil, Passes-trans, Takes-nil, Takes-trans}
 
@@ -125,6 +127,7 @@ AnswersAll-new streams steps w s new = record {
   took = Takes-nil (streams.held s.sink);
   counted = new.none_taken;
   fronts = record { parts = sym new.none_waits; each = tt };
+  served = tt;
   each = refl;
   framed = tt;
   out = GoesOut-nil;
@@ -149,6 +152,7 @@ AnswersAll-arrives {Si = Si} streams steps before now old mid new p q stays = re
   counted = omega (arith, p.counted, q.counted, length-append p.bytes q.bytes);
   fronts = subst (λ (waiting : List ℕ). BeginsWithRequests (p.bytes ++ q.bytes) p.handled waiting)
       (sym q.behind) (BeginsWithRequests-arrives p.bytes q.bytes p.handled mid.waiting p.fronts);
+  served = p.served;
   each = p.each;
   framed = p.framed;
   out = p.out;
@@ -173,6 +177,8 @@ AnswersAll-answers {W = W} {So = So} streams steps before now after old mid new 
   counted = q.taken ∙ p.counted;
   fronts = BeginsWithRequests-next p.bytes p.handled mid.waiting q.request new.waiting p.fronts
       q.begins;
+  served = all-append (λ request. IsTrue (is_served request)) p.handled (q.request ∷ []) p.served
+      (q.served, tt);
   each = omega (
     arith,
     p.each,
@@ -193,18 +199,20 @@ AnswersAll-answers {W = W} {So = So} streams steps before now after old mid new 
 pub Answers-made : {W So Si : Type 0} (streams : Streams So Si)
     (steps : W → Request → Reply → W → Type 0) (before now : W) (old mid new : SessionState So Si)
     (request : Request) (n : ℕ) (one : Reply) (given : List ℕ) (left : List Reply)
-    → IsWhole old.waiting request n → steps before request one now → HasReplyFrame one
+    → IsWhole old.waiting request n → IsTrue (is_served request) → steps before request one now
+    → HasReplyFrame one
     → mid.waiting ≡ drop n old.waiting → mid.source ≡ old.source → mid.sink ≡ old.sink
     → mid.taken ≡ old.taken → mid.ended ≡ old.ended → KeepsTaken mid new
     → Takes (streams.held mid.sink) (streams.held new.sink) given → GoesOut (one ∷ []) given left
     → Answers streams steps before now old new left
-Answers-made {Si = Si} streams steps before now old mid new request n one given left whole step
-    framed waiting source sink taken ended kept took out = record {
+Answers-made {Si = Si} streams steps before now old mid new request n one given left whole served
+    step framed waiting source sink taken ended kept took out = record {
       request = request;
       reply = one;
       given = given;
       begins = subst (λ (rest : List ℕ). BeginsWithRequest old.waiting request rest)
           (sym (kept.waiting ∙ waiting)) whole.begins;
+      served = served;
       framed = framed;
       step = step;
       took = subst (λ (s : Si). Takes (streams.held s) (streams.held new.sink) given) sink took;
@@ -218,7 +226,8 @@ Answers-made {Si = Si} streams steps before now old mid new request n one given 
 pub Answers-result : {T W So Si : Type 0} (streams : Streams So Si)
     (steps : W → Request → Reply → W → Type 0) (before now : W) (old mid new : SessionState So Si)
     (request : Request) (n : ℕ) (one : Reply) (result : Result T Reply)
-    → IsWhole old.waiting request n → steps before request one now → HasReplyFrame one
+    → IsWhole old.waiting request n → IsTrue (is_served request) → steps before request one now
+    → HasReplyFrame one
     → mid.waiting ≡ drop n old.waiting → mid.source ≡ old.source → mid.sink ≡ old.sink
     → mid.taken ≡ old.taken → mid.ended ≡ old.ended → KeepsTaken mid new
     → OnOk result (Takes (streams.held mid.sink) (streams.held new.sink) (reply_frame one))
@@ -226,16 +235,16 @@ pub Answers-result : {T W So Si : Type 0} (streams : Streams So Si)
     × TakesPart (streams.held mid.sink) (streams.held new.sink) (reply_frame one))
     → MatchResult result (λ _. Answers streams steps before now old new [])
     (λ back. Answers streams steps before now old new (back ∷ []))
-Answers-result streams steps before now old mid new request n one (Ok x) whole step framed waiting
-    source sink taken ended kept ok err =
-    Answers-made streams steps before now old mid new request n one (reply_frame one) [] whole step
-    framed waiting source sink taken ended kept ok (GoesOut-one one)
-Answers-result streams steps before now old mid new request n one (Err back) whole step framed
-    waiting source sink taken ended kept ok err =
+Answers-result streams steps before now old mid new request n one (Ok x) whole served step
+    framed waiting source sink taken ended kept ok err =
+    Answers-made streams steps before now old mid new request n one (reply_frame one) [] whole
+    served step framed waiting source sink taken ended kept ok (GoesOut-one one)
+Answers-result streams steps before now old mid new request n one (Err back) whole served step
+    framed waiting source sink taken ended kept ok err =
     let part = err.1 in
     subst (λ (r : Reply). Answers streams steps before now old new (r ∷ [])) (sym err.0)
-    (Answers-made streams steps before now old mid new request n one part.part (one ∷ []) whole step
-    framed waiting source sink taken ended kept part.took
+    (Answers-made streams steps before now old mid new request n one part.part (one ∷ []) whole
+    served step framed waiting source sink taken ended kept part.took
     (GoesOut-part one part.part part.behind part.some part.parts))
 
 -- a count that rose since a moment rose since each earlier one
@@ -419,6 +428,7 @@ Ends-closed {So = So} streams steps before now old mid new cause left p q spent 
         rest = mid.waiting;
         closing = q.closing;
         fronts = p.fronts;
+        served = p.served;
         each = p.each;
         framed = all-append HasReplyFrame p.replies q.closing p.framed q.framed;
         closes = subst (λ (ended : Bool). Closes cause p.bytes mid.waiting ended q.closing)
@@ -449,30 +459,31 @@ pub Ends-unsent : {W So Si : Type 0} (streams : Streams So Si)
     → Ends streams steps before now old new SinkFault (one ∷ [])
 Ends-unsent streams steps before now old new one p spent source_later sink_later rose source_is
     sink_is = record {
-  bytes = p.bytes;
-  given = p.given;
-  handled = p.handled;
-  replies = p.replies;
-  passed = p.passed;
-  took = p.took;
-  counted = p.counted;
-  spent = spent;
-  transcript = record {
-    rest = new.waiting;
-    closing = [];
-    fronts = p.fronts;
-    each = p.each;
-    framed = all-append HasReplyFrame p.replies [] p.framed tt;
-    closes = inl refl;
-    out = subst (λ (replies : List Reply). GoesOut replies p.given (one ∷ []))
-        (sym (append-nil p.replies)) p.out;
-    leaves = omega arith;
-  };
-  runs = p.runs;
-  source_later = source_later;
-  sink_later = sink_later;
-  source_rose = λ e. absurd cc;
-  sink_rose = λ e. rose;
-  source_counted = source_is;
-  sink_counted = sink_is;
-}
+      bytes = p.bytes;
+      given = p.given;
+      handled = p.handled;
+      replies = p.replies;
+      passed = p.passed;
+      took = p.took;
+      counted = p.counted;
+      spent = spent;
+      transcript = record {
+        rest = new.waiting;
+        closing = [];
+        fronts = p.fronts;
+        served = p.served;
+        each = p.each;
+        framed = all-append HasReplyFrame p.replies [] p.framed tt;
+        closes = inl refl;
+        out = subst (λ (replies : List Reply). GoesOut replies p.given (one ∷ []))
+            (sym (append-nil p.replies)) p.out;
+        leaves = omega arith;
+      };
+      runs = p.runs;
+      source_later = source_later;
+      sink_later = sink_later;
+      source_rose = λ e. absurd cc;
+      sink_rose = λ e. rose;
+      source_counted = source_is;
+      sink_counted = sink_is;
+    }

@@ -26,6 +26,7 @@ module _ {D : Type 0} (d : Ghosts D) where
       → HasAnswers d disk disk' pairs → HasAnswers d earlier disk' pairs
   answers_from earlier disk disk' pairs le h = record {
     agrees = h.agrees;
+    plain = h.plain;
     ordered = h.ordered;
     closes = h.closes;
     faults = omega (arith, le, h.faults);

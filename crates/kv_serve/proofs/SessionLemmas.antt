@@ -6,8 +6,8 @@ use Rattle.std.proofs.lemmas.List.{append-nil, take_at, drop_at, take-take, take
 use Rattle.std.proofs.lemmas.List.{take-append-le, drop-take, drop-append-le, length-take-le}
 use Rattle.std.proofs.lemmas.List.{length-take, length-drop, take_rest}
 use Rattle.kv_base.specs.Stream.{Stream, Passes, Takes}
-use Rattle.kv_model.specs.Frames.{BeginsWithNoRequest, IsMalformed}
 use Rattle.kv_serve.specs.Session.{SessionState, Arrives, NeedsMore, StaysDecided}
+use Rattle.kv_serve.specs.Transcript.{BeginsWithNoServed, IsUnserved}
 
 pub Passes-nil : (now : Option Stream) → Passes now now []
 Passes-nil None = tt
@@ -65,11 +65,11 @@ pub StaysDecided-more : {So Si : Type 0} {old mid new : SessionState So Si} → 
     → NeedsMore mid.waiting mid.ended mid.taken → StaysDecided old new
 StaysDecided-more {So = So} {Si = Si} stays more = record {
   front = λ h.
-      let none = subst (λ (s : SessionState So Si). BeginsWithNoRequest s.waiting) (stays.front h)
+      let none = subst (λ (s : SessionState So Si). BeginsWithNoServed s.waiting) (stays.front h)
       more.undecided.none in
-      absurd (none h.request h.rest h.begins);
+      absurd (none h.request h.rest h.served h.begins);
   bad = λ h.
-      let good = subst (λ (s : SessionState So Si). IsMalformed s.waiting → ⊥) (stays.bad h)
+      let good = subst (λ (s : SessionState So Si). IsUnserved s.waiting → ⊥) (stays.bad h)
       more.undecided.good in
       absurd (good h);
   ended = λ h.

@@ -14,9 +14,10 @@ use Rattle.kv_base.specs.Calls.{next_count}
 use Rattle.kv_base.specs.declared.request.Request.{Request}
 use Rattle.kv_base.specs.declared.request.Request.TheVariants.{Put, Get}
 use Rattle.kv_base.specs.declared.reply.Reply.{Reply}
-use Rattle.kv_base.specs.declared.reply.Reply.TheVariants.{Stored, Found, Missing, BadKey, TooLarge}
-use Rattle.kv_base.specs.declared.reply.Reply.TheVariants.{Full, NoMemory, DiskFault, Unsure}
-use Rattle.kv_base.specs.declared.reply.Reply.TheVariants.{Closed, Malformed}
+use Rattle.kv_base.specs.declared.reply.Reply.TheVariants.{Stored, Found, Missing, Removed, Absent}
+use Rattle.kv_base.specs.declared.reply.Reply.TheVariants.{BadKey, TooLarge, Full, NoMemory}
+use Rattle.kv_base.specs.declared.reply.Reply.TheVariants.{DiskFault, Unsure, Closed, StampsSpent}
+use Rattle.kv_base.specs.declared.reply.Reply.TheVariants.{Malformed}
 use Rattle.kv_disk.specs.declared.disk.Disk.{Ghosts}
 use Rattle.kv_model.specs.History.{Write, latest, value_at}
 use Rattle.kv_model.specs.Layout.{only_class, class_of}
@@ -25,9 +26,11 @@ use Rattle.kv_model.specs.Agreement.{IsAnswer, IsMapAnswer, IsRead, refusal_of}
 use Rattle.kv_serve.specs.Pages.{place_of}
 use Rattle.kv_serve.specs.Placed.{IsPlaced, GivesPage, HasPlaces}
 use Rattle.kv_serve.specs.Content.{ReadsAs, ReadsItem, IsFoundIn}
-use Rattle.kv_serve.specs.Causes.{RoseBy, is_unsure, faults_told, IsFullAtLimit, drawn, faults_behind}
-use Rattle.kv_serve.specs.Causes.{slot_limit, last_value, HasNoSlot}
-use Rattle.kv_serve.specs.Store.{Keeps, Holds, Steps, TakesCalls, IsDurable, OthersStay, IsItemOf, HasItems}
+use Rattle.kv_serve.specs.Causes.{RoseBy, is_unsure, faults_told, IsFullAtLimit, drawn}
+use Rattle.kv_serve.specs.Causes.{faults_behind, slot_limit, last_value, HasNoSlot, IsPlain}
+use Rattle.kv_serve.specs.Transcript.{is_served}
+use Rattle.kv_serve.specs.Store.{Keeps, Holds, Steps, TakesCalls, IsDurable, OthersStay, IsItemOf}
+use Rattle.kv_serve.specs.Store.{HasItems}
 use Rattle.kv_base.specs.Crash.{Same}
 use Rattle.kv_serve.specs.declared.store.Store.{Store}
 use Rattle.kv_base.proofs.ImageLemmas.{with_page-here, with_page-other}
@@ -234,7 +237,8 @@ module _ {D : Type 0} {d : Ghosts D} where
 
   -- a request whose reply leaves all but the next stamp as it is
   pub steps_kept : (old new : Store D d) (request : Request) (reply : Reply)
-      → refusal_of (only_class 7) request ≡ None → old.closed ≡ false → old.next ≤ new.next
+      → refusal_of (only_class 7) request ≡ None → IsTrue (is_served request)
+      → IsPlain request reply → old.closed ≡ false → old.next ≤ new.next
       → (IsTrue d.tells → d.seen new.disk ≡ d.seen old.disk) → new.pages.entries ≡ old.pages.entries
       → new.closed ≡ old.closed
       → acknowledged_by request reply ≡ None → is_unsure reply ≡ false → (reply ≡ Closed → ⊥)
@@ -248,12 +252,14 @@ module _ {D : Type 0} {d : Ghosts D} where
       → d.faults new.disk ≡ faults_behind reply (d.faults old.disk)
       → new.next ≡ old.next + drawn reply
       → IfSome (stamp_of reply) (λ stamp. stamp ≡ old.next) → Steps old request reply new
-  steps_kept old new request reply good unclosed later same pages closed silent sure other answers
-      full stamped cause taken lasting told draws carries = record {
+  steps_kept old new request reply good served plain unclosed later same pages closed silent sure
+      other answers full stamped cause taken lasting told draws carries = record {
         answers = λ history h. answer_from d.tells history request reply good (answers history h);
         holds = λ history h. rw silent (holds_nothing_more new history (holds_same old new history h
             later same pages closed));
         full = full;
+        served = served;
+        plain = plain;
         stamped = stamped;
         later = later;
         closes = closes_open old.closed request reply other unclosed;
@@ -273,7 +279,7 @@ module _ {D : Type 0} {d : Ghosts D} where
       → new.disk ≡ old.disk → new.pages.entries ≡ old.pages.entries → new.closed ≡ old.closed
       → Steps old (Get key) (Missing old.next) new
   steps_missing old new key good unclosed nowhere next disk pages closed =
-      steps_kept old new (Get key) (Missing old.next) good unclosed (omega (arith, next))
+      steps_kept old new (Get key) (Missing old.next) good refl tt unclosed (omega (arith, next))
       (λ t. ap d.seen disk) pages closed refl refl (λ e. cc)
       (λ history h. let k = h.kept unclosed key old.next (omega arith) in let n = rw nowhere at k in
       n)
@@ -292,7 +298,7 @@ module _ {D : Type 0} {d : Ghosts D} where
       → (IsDurable d old.disk → IsDurable d new.disk) → Steps old (Get key) reply new
   steps_read old new key page content (Found stamp value) good unclosed here next same pages closed
       read faults calls found stood lasting =
-      steps_kept old new (Get key) (Found stamp value) good unclosed (omega (arith, next)) same
+      steps_kept old new (Get key) (Found stamp value) good refl tt unclosed (omega (arith, next)) same
       pages closed refl refl (λ e. cc)
       (λ history h. let keeps = h.kept unclosed key stamp (omega (arith, found.0)) in
       let kept = rw here at keeps in read_kept d.tells (d.seen old.disk) page key
@@ -301,11 +307,15 @@ module _ {D : Type 0} {d : Ghosts D} where
       lasting stood next found.0
   steps_read old new key page content NoMemory good unclosed here next same pages closed read faults
       calls found stood lasting =
-      steps_kept old new (Get key) NoMemory good unclosed (omega (arith, next)) same pages closed
+      steps_kept old new (Get key) NoMemory good refl tt unclosed (omega (arith, next)) same pages closed
       refl refl (λ e. cc) (λ _ _. tt) (λ _ _. tt) tt (omega arith) (inr calls) lasting stood next tt
   steps_read old new key page content (Stored stamp) good unclosed here next same pages closed read
       faults calls found stood lasting = absurd found
   steps_read old new key page content (Missing stamp) good unclosed here next same pages closed read
+      faults calls found stood lasting = absurd found
+  steps_read old new key page content (Removed stamp) good unclosed here next same pages closed read
+      faults calls found stood lasting = absurd found
+  steps_read old new key page content (Absent stamp) good unclosed here next same pages closed read
       faults calls found stood lasting = absurd found
   steps_read old new key page content BadKey good unclosed here next same pages closed read faults
       calls found stood lasting = absurd found
@@ -319,6 +329,8 @@ module _ {D : Type 0} {d : Ghosts D} where
       faults calls found stood lasting = absurd found
   steps_read old new key page content Closed good unclosed here next same pages closed read faults
       calls found stood lasting = absurd found
+  steps_read old new key page content (StampsSpent number) good unclosed here next same pages closed
+      read faults calls found stood lasting = absurd found
   steps_read old new key page content (Malformed offset) good unclosed here next same pages closed
       read faults calls found stood lasting = absurd found
 
@@ -332,7 +344,7 @@ module _ {D : Type 0} {d : Ghosts D} where
       → d.calls new.disk ≡ next_count (d.calls old.disk)
       → (IsDurable d old.disk → IsDurable d new.disk) → Steps old (Get key) DiskFault new
   steps_read_failed old new key good unclosed next same pages closed rose told calls lasting =
-      steps_kept old new (Get key) DiskFault good unclosed (omega (arith, next)) same pages closed
+      steps_kept old new (Get key) DiskFault good refl refl unclosed (omega (arith, next)) same pages closed
       refl refl (λ e. cc) (λ _ _. tt) (λ _ _. tt) tt rose calls lasting told next tt
 
   -- a put that has no slot
@@ -344,7 +356,7 @@ module _ {D : Type 0} {d : Ghosts D} where
       → ((history : List Write) → Holds old history → HasNoSlot history key)
       → Steps old (Put key value) (Full 7) new
   steps_full old new key value good fits unclosed next disk pages closed full =
-      steps_kept old new (Put key value) (Full 7) good unclosed (omega (arith, next))
+      steps_kept old new (Put key value) (Full 7) good refl tt unclosed (omega (arith, next))
       (λ t. ap d.seen disk) pages closed refl refl (λ e. cc) (λ _ _. fits) full tt
       (rw disk (omega arith)) (ap d.calls disk) (λ h. rw disk h) (ap d.faults disk) next tt
 
@@ -354,7 +366,7 @@ module _ {D : Type 0} {d : Ghosts D} where
       → new.next ≡ old.next + 1 → new.disk ≡ old.disk → new.pages.entries ≡ old.pages.entries
       → new.closed ≡ old.closed → Steps old (Put key value) NoMemory new
   steps_no_memory old new key value good unclosed next disk pages closed =
-      steps_kept old new (Put key value) NoMemory good unclosed (omega (arith, next))
+      steps_kept old new (Put key value) NoMemory good refl tt unclosed (omega (arith, next))
       (λ t. ap d.seen disk) pages closed refl refl (λ e. cc) (λ _ _. tt) (λ _ _. tt) tt
       (rw disk (omega arith)) (inl (ap d.calls disk)) (λ h. rw disk h) (ap d.faults disk) next tt
 
@@ -376,6 +388,8 @@ module _ {D : Type 0} {d : Ghosts D} where
           items = λ e. absurd (false≢true (sym e ∙ closed));
         });
     full = λ _ _. tt;
+    served = refl;
+    plain = tt;
     stamped = (omega arith, omega (arith, next));
     later = omega (arith, next);
     closes = closes_open old.closed (Put key value) (Unsure old.next) (λ e. cc) unclosed;
@@ -468,6 +482,8 @@ module _ {D : Type 0} {d : Ghosts D} where
         holds = λ history h. holds_put old new key value content page history h unclosed next gives
             placed written reads;
         full = has_slot old key unclosed small was room;
+        served = refl;
+        plain = tt;
         stamped = (omega arith, omega (arith, next));
         later = omega (arith, next);
         closes = closes_open old.closed (Put key value) (Stored old.next) (λ e. cc) unclosed;

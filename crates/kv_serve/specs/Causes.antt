@@ -1,14 +1,17 @@
 -- What shows the cause of each refusal.
 use Rattle.std.specs.Prelude.{◌≡◌, ◌≢◌, ℕ, ◌+◌, ◌-◌, ◌^◌, ◌≤◌, ◌↔◌, ◌||◌, min, List, [], ◌∷◌, ◌++◌}
-use Rattle.std.specs.Prelude.{length, Option, None, IsSome, IfSome, Bool, true, false, ⊤}
+use Rattle.std.specs.Prelude.{length, Option, None, IsSome, IfSome, MatchOption, Bool, true, false}
+use Rattle.std.specs.Prelude.{IsTrue, ⊤}
 use Rattle.std.specs.List.{AllByRecursion}
 use Rattle.std.specs.Option.{option_to_list}
 use Rattle.kv_base.specs.declared.request.Request.{Request}
+use Rattle.kv_base.specs.declared.request.Request.TheVariants.{Put, Get, Delete, Flush}
 use Rattle.kv_base.specs.Calls.{next_count}
 use Rattle.kv_base.specs.declared.reply.Reply.{Reply}
-use Rattle.kv_base.specs.declared.reply.Reply.TheVariants.{Stored, Found, Missing, BadKey, TooLarge}
-use Rattle.kv_base.specs.declared.reply.Reply.TheVariants.{Full, NoMemory, DiskFault, Unsure}
-use Rattle.kv_base.specs.declared.reply.Reply.TheVariants.{Closed, Malformed}
+use Rattle.kv_base.specs.declared.reply.Reply.TheVariants.{Stored, Found, Missing, Removed, Absent}
+use Rattle.kv_base.specs.declared.reply.Reply.TheVariants.{BadKey, TooLarge, Full, NoMemory}
+use Rattle.kv_base.specs.declared.reply.Reply.TheVariants.{DiskFault, Unsure, Closed, StampsSpent}
+use Rattle.kv_base.specs.declared.reply.Reply.TheVariants.{Malformed}
 use Rattle.kv_model.specs.Pairwise.{Pairwise}
 use Rattle.kv_model.specs.History.{Write, value_at}
 use Rattle.kv_model.specs.Layout.{Layout}
@@ -24,6 +27,8 @@ abbrev pub is_unsure : Reply → Bool
 is_unsure (Stored stamp) = false
 is_unsure (Found stamp value) = false
 is_unsure (Missing stamp) = false
+is_unsure (Removed stamp) = false
+is_unsure (Absent stamp) = false
 is_unsure BadKey = false
 is_unsure TooLarge = false
 is_unsure (Full class) = false
@@ -31,13 +36,40 @@ is_unsure NoMemory = false
 is_unsure DiskFault = false
 is_unsure (Unsure stamp) = true
 is_unsure Closed = false
+is_unsure (StampsSpent number) = false
 is_unsure (Malformed offset) = false
+
+-- the request is a Get
+abbrev pub is_get : Request → Bool
+is_get (Put key value) = false
+is_get (Get key) = true
+is_get (Delete key) = false
+is_get Flush = false
+
+-- the plain store may answer so: it removes nothing, its stamps last, and only a Get reads the disk
+abbrev pub IsPlain : Request → Reply → Type 0
+IsPlain request (Stored stamp) = ⊤
+IsPlain request (Found stamp value) = ⊤
+IsPlain request (Missing stamp) = ⊤
+IsPlain request (Removed stamp) = ⊥
+IsPlain request (Absent stamp) = ⊥
+IsPlain request BadKey = ⊤
+IsPlain request TooLarge = ⊤
+IsPlain request (Full class) = ⊤
+IsPlain request NoMemory = ⊤
+IsPlain request DiskFault = IsTrue (is_get request)
+IsPlain request (Unsure stamp) = ⊤
+IsPlain request Closed = ⊤
+IsPlain request (StampsSpent number) = ⊥
+IsPlain request (Malformed offset) = ⊤
 
 -- how many faults of the disk the reply tells of
 abbrev pub faults_told : Reply → ℕ
 faults_told (Stored stamp) = 0
 faults_told (Found stamp value) = 0
 faults_told (Missing stamp) = 0
+faults_told (Removed stamp) = 0
+faults_told (Absent stamp) = 0
 faults_told BadKey = 0
 faults_told TooLarge = 0
 faults_told (Full class) = 0
@@ -45,6 +77,7 @@ faults_told NoMemory = 0
 faults_told DiskFault = 1
 faults_told (Unsure stamp) = 1
 faults_told Closed = 0
+faults_told (StampsSpent number) = 0
 faults_told (Malformed offset) = 0
 
 -- how many faults of the disk the replies tell of
@@ -70,6 +103,8 @@ abbrev pub faults_behind : Reply → ℕ → ℕ
 faults_behind (Stored stamp) n = n
 faults_behind (Found stamp value) n = n
 faults_behind (Missing stamp) n = n
+faults_behind (Removed stamp) n = n
+faults_behind (Absent stamp) n = n
 faults_behind BadKey n = n
 faults_behind TooLarge n = n
 faults_behind (Full class) n = n
@@ -77,6 +112,7 @@ faults_behind NoMemory n = n
 faults_behind DiskFault n = next_count n
 faults_behind (Unsure stamp) n = next_count n
 faults_behind Closed n = n
+faults_behind (StampsSpent number) n = n
 faults_behind (Malformed offset) n = n
 
 -- the same behind all replies
@@ -89,6 +125,8 @@ abbrev pub drawn : Reply → ℕ
 drawn (Stored stamp) = 1
 drawn (Found stamp value) = 1
 drawn (Missing stamp) = 1
+drawn (Removed stamp) = 1
+drawn (Absent stamp) = 1
 drawn BadKey = 0
 drawn TooLarge = 0
 drawn (Full class) = 1
@@ -96,6 +134,7 @@ drawn NoMemory = 1
 drawn DiskFault = 1
 drawn (Unsure stamp) = 1
 drawn Closed = 0
+drawn (StampsSpent number) = 1
 drawn (Malformed offset) = 0
 
 -- each reply that carries a stamp carries the next one; each request but a refused one draws one
@@ -126,16 +165,21 @@ pub record HasNoSlot (history : List Write) (key : List ℕ) : Type 0 where
 
 -- the reply is Full only where the key has no slot, and Stored only where it has one
 abbrev pub IsFullAtLimit : List Write → Request → Reply → Type 0
-IsFullAtLimit history request (Stored stamp) = HasNoSlot history (key_of request) → ⊥
+IsFullAtLimit history request (Stored stamp) =
+    IfSome (key_of request) (λ key. HasNoSlot history key → ⊥)
 IsFullAtLimit history request (Found stamp value) = ⊤
 IsFullAtLimit history request (Missing stamp) = ⊤
+IsFullAtLimit history request (Removed stamp) = ⊤
+IsFullAtLimit history request (Absent stamp) = ⊤
 IsFullAtLimit history request BadKey = ⊤
 IsFullAtLimit history request TooLarge = ⊤
-IsFullAtLimit history request (Full class) = HasNoSlot history (key_of request)
+IsFullAtLimit history request (Full class) =
+    MatchOption (key_of request) ⊥ (λ key. HasNoSlot history key)
 IsFullAtLimit history request NoMemory = ⊤
 IsFullAtLimit history request DiskFault = ⊤
 IsFullAtLimit history request (Unsure stamp) = ⊤
 IsFullAtLimit history request Closed = ⊤
+IsFullAtLimit history request (StampsSpent number) = ⊤
 IsFullAtLimit history request (Malformed offset) = ⊤
 
 -- the same of each pair, over the history and the writes of the pairs before it

@@ -1,9 +1,10 @@
 -- What the page of a key gives.
 use Rattle.std.specs.Prelude.{◌≡◌, ℕ, List, take, ⊤}
 use Rattle.kv_base.specs.declared.reply.Reply.{Reply}
-use Rattle.kv_base.specs.declared.reply.Reply.TheVariants.{Stored, Found, Missing, BadKey, TooLarge}
-use Rattle.kv_base.specs.declared.reply.Reply.TheVariants.{Full, NoMemory, DiskFault, Unsure}
-use Rattle.kv_base.specs.declared.reply.Reply.TheVariants.{Closed, Malformed}
+use Rattle.kv_base.specs.declared.reply.Reply.TheVariants.{Stored, Found, Missing, Removed, Absent}
+use Rattle.kv_base.specs.declared.reply.Reply.TheVariants.{BadKey, TooLarge, Full, NoMemory}
+use Rattle.kv_base.specs.declared.reply.Reply.TheVariants.{DiskFault, Unsure, Closed, StampsSpent}
+use Rattle.kv_base.specs.declared.reply.Reply.TheVariants.{Malformed}
 use Rattle.kv_model.specs.Layout.{only_class}
 use Rattle.kv_model.specs.Slots.{Item, read_small}
 
@@ -21,6 +22,8 @@ abbrev pub IsFoundIn : List ℕ → List ℕ → ℕ → Reply → Type 0
 IsFoundIn content key stamp (Stored other) = ⊥
 IsFoundIn content key stamp (Found other value) = (other ≡ stamp) × ReadsAs content key value
 IsFoundIn content key stamp (Missing other) = ⊥
+IsFoundIn content key stamp (Removed other) = ⊥
+IsFoundIn content key stamp (Absent other) = ⊥
 IsFoundIn content key stamp BadKey = ⊥
 IsFoundIn content key stamp TooLarge = ⊥
 IsFoundIn content key stamp (Full class) = ⊥
@@ -28,4 +31,5 @@ IsFoundIn content key stamp NoMemory = ⊤
 IsFoundIn content key stamp DiskFault = ⊥
 IsFoundIn content key stamp (Unsure other) = ⊥
 IsFoundIn content key stamp Closed = ⊥
+IsFoundIn content key stamp (StampsSpent number) = ⊥
 IsFoundIn content key stamp (Malformed offset) = ⊥

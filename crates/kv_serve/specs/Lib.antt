@@ -1,3 +1,4 @@
+pub mod Transcript
 pub mod Pages
 pub mod Causes
 pub mod Placed

@@ -1,5 +1,5 @@
 -- What a session did from its first byte to its end.
-use Rattle.std.specs.Prelude.{◌≡◌, ℕ, ◌≤◌, List, [], ◌∷◌, length, Option, Bool, true}
+use Rattle.std.specs.Prelude.{◌≡◌, ℕ, ◌≤◌, List, [], ◌∷◌, length, Option, Bool, true, IsTrue}
 use Rattle.std.specs.List.{AllByRecursion}
 use Rattle.kv_base.specs.declared.request.Request.{Request}
 use Rattle.kv_base.specs.declared.reply.Reply.{Reply}
@@ -11,9 +11,10 @@ use Rattle.kv_base.specs.Fault.{Rose}
 use Rattle.kv_base.specs.Stream.{Stream, Passes, IsSpent, Takes}
 use Rattle.kv_model.specs.Pairs.{Pair}
 use Rattle.kv_model.specs.Frames.{HasReplyFrame, BeginsWithRequest, BeginsWithRequests}
-use Rattle.kv_model.specs.Transcript.{HasTranscript, GoesOut, Closes, Leaves}
+use Rattle.kv_model.specs.Transcript.{GoesOut, Leaves}
 use Rattle.kv_serve.specs.declared.ending.Finished.{Finished}
 use Rattle.kv_serve.specs.Session.{SessionState, KeepsTaken}
+use Rattle.kv_serve.specs.Transcript.{is_served, HasTranscript, Closes}
 
 -- what sources and sinks of two types tell: the bytes that passed, and how often they failed
 pub record Streams (So Si : Type 0) : Type 0 where
@@ -44,6 +45,7 @@ pub record Answers {W So Si : Type 0} (streams : Streams So Si)
   pub reply : Reply
   pub given : List ℕ
   pub begins : BeginsWithRequest old.waiting request new.waiting
+  pub served : IsTrue (is_served request)
   pub framed : HasReplyFrame reply
   pub step : steps before request reply now
   pub took : Takes (streams.held old.sink) (streams.held new.sink) given
@@ -65,6 +67,7 @@ pub record AnswersAll {W So Si : Type 0} (streams : Streams So Si)
   pub took : Takes (streams.held old.sink) (streams.held new.sink) given
   pub counted : new.taken ≡ length bytes
   pub fronts : BeginsWithRequests bytes handled new.waiting
+  pub served : AllByRecursion (λ request. IsTrue (is_served request)) handled
   pub each : length replies ≡ length handled
   pub framed : AllByRecursion HasReplyFrame replies
   pub out : GoesOut replies given left

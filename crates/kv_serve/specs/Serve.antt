@@ -12,7 +12,6 @@ use Rattle.kv_base.specs.Stream.{Passes, IsSpent, Takes}
 use Rattle.kv_disk.specs.declared.disk.Disk.{Ghosts}
 use Rattle.kv_base.specs.Crash.{Same}
 use Rattle.kv_model.specs.Head.{head_page}
-use Rattle.kv_model.specs.Transcript.{HasTranscript}
 use Rattle.kv_site.specs.Held.{Held}
 use Rattle.kv_site.specs.declared.fault.TakeFault.{TakeFault}
 use Rattle.kv_site.specs.declared.fault.TakeFault.TheVariants.{Failed, NoMemory}
@@ -28,6 +27,7 @@ use Rattle.kv_serve.specs.Open.{IsBlank, IsUsed, IsSpared}
 use Rattle.kv_serve.specs.Run.{Streams, pairs_of, source_faults_for, sink_faults_for}
 use Rattle.kv_serve.specs.Store.{IsDurable, OthersStay}
 use Rattle.kv_serve.specs.Answers.{HasAnswers}
+use Rattle.kv_serve.specs.Transcript.{HasTranscript}
 
 -- a session with its store, from its first byte to its end: what it took, handled, gave and left,
 -- that the replies are those of one plain map, and the cause of each refusal and of its end; unsure

@@ -1,12 +1,12 @@
 -- A session's bytes between its source and its sink.
 use Rattle.std.specs.Prelude.{◌≡◌, ℕ, ◌+◌, ◌^◌, ◌<◌, ◌≤◌, List, [], ◌++◌, length, Option, Bool}
-use Rattle.std.specs.Prelude.{true, false}
+use Rattle.std.specs.Prelude.{true, false, IsTrue}
 use Rattle.kv_base.specs.declared.request.Request.{Request}
 use Rattle.kv_base.specs.Fault.{Rose}
 use Rattle.kv_base.specs.Calls.{next_count}
 use Rattle.kv_base.specs.Stream.{Stream, Passes, Takes}
-use Rattle.kv_model.specs.Frames.{BeginsWithRequest, BeginsWithNoRequest, IsPartial, IsMalformed}
-use Rattle.kv_model.specs.Frames.{IsBad}
+use Rattle.kv_model.specs.Frames.{BeginsWithRequest, IsPartial}
+use Rattle.kv_serve.specs.Transcript.{is_served, BeginsWithNoServed, IsUnserved, IsBad}
 use Rattle.kv_serve.specs.declared.fill.Ready.{Ready}
 use Rattle.kv_serve.specs.declared.fill.Ready.TheVariants as ready
 
@@ -33,10 +33,11 @@ pub record Arrives (before now : Option Stream) (waiting after : List ℕ)
   pub behind : after ≡ waiting ++ bytes
   pub counted : total ≡ count + length bytes
 
--- a request's frame begins the bytes
+-- the frame of a request that is served begins the bytes
 pub record HasRequest (waiting : List ℕ) : Type 0 where
   pub request : Request
   pub rest : List ℕ
+  pub served : IsTrue (is_served request)
   pub begins : BeginsWithRequest waiting request rest
 
 -- the input ended behind a whole frame
@@ -44,14 +45,14 @@ pub record IsAtEnd (waiting : List ℕ) (ended : Bool) : Type 0 where
   pub none_waits : waiting ≡ []
   pub has_ended : ended ≡ true
 
--- no request begins the bytes, and none will
+-- no request that is served begins the bytes, and none will
 pub record IsStuck (waiting : List ℕ) (ended : Bool) : Type 0 where
-  pub none : BeginsWithNoRequest waiting
+  pub none : BeginsWithNoServed waiting
   pub bad : IsBad waiting ended
 
 -- no request begins the bytes, and more of them could make one
 pub record GoesOn (waiting : List ℕ) (ended : Bool) : Type 0 where
-  pub none : BeginsWithNoRequest waiting
+  pub none : BeginsWithNoServed waiting
   pub goes_on : ended ≡ false
   pub good : IsBad waiting false → ⊥
 
@@ -81,7 +82,7 @@ pub record NeedsMore (waiting : List ℕ) (ended : Bool) (taken : ℕ) : Type 0 
 -- where the input has ended
 pub record StaysDecided {So Si : Type 0} (old new : SessionState So Si) : Type 0 where
   pub front : HasRequest old.waiting → new ≡ old
-  pub bad : IsMalformed old.waiting → new ≡ old
+  pub bad : IsUnserved old.waiting → new ≡ old
   pub ended : old.ended ≡ true → new ≡ old
 
 -- what a session took stays

@@ -1,15 +1,16 @@
 -- The plain store: one page for each key, in class 7.
 use Rattle.std.specs.Prelude.{◌≡◌, ℕ, ◌+◌, ◌<◌, ◌≤◌, ◌↔◌, ◌⊎◌, ◌||◌, List, ◌++◌, Option, None, Some}
-use Rattle.std.specs.Prelude.{Bool, true, false, IsTrue, IfSome, ⊤}
+use Rattle.std.specs.Prelude.{Bool, true, false, IsTrue, IfSome}
 use Rattle.std.specs.List.{AllByRecursion}
 use Rattle.std.specs.Option.{option_to_list}
 use Rattle.kv_base.specs.Image.{Image}
 use Rattle.kv_base.specs.Calls.{next_count}
 use Rattle.kv_base.specs.declared.request.Request.{Request}
 use Rattle.kv_base.specs.declared.reply.Reply.{Reply}
-use Rattle.kv_base.specs.declared.reply.Reply.TheVariants.{Stored, Found, Missing, BadKey, TooLarge}
-use Rattle.kv_base.specs.declared.reply.Reply.TheVariants.{Full, NoMemory, DiskFault, Unsure}
-use Rattle.kv_base.specs.declared.reply.Reply.TheVariants.{Closed, Malformed}
+use Rattle.kv_base.specs.declared.reply.Reply.TheVariants.{Stored, Found, Missing, Removed, Absent}
+use Rattle.kv_base.specs.declared.reply.Reply.TheVariants.{BadKey, TooLarge, Full, NoMemory}
+use Rattle.kv_base.specs.declared.reply.Reply.TheVariants.{DiskFault, Unsure, Closed, StampsSpent}
+use Rattle.kv_base.specs.declared.reply.Reply.TheVariants.{Malformed}
 use Rattle.kv_model.specs.History.{Write, latest, value_at}
 use Rattle.kv_model.specs.Layout.{only_class}
 use Rattle.kv_model.specs.Pairs.{acknowledged_by, stamp_of}
@@ -17,7 +18,8 @@ use Rattle.kv_model.specs.Agreement.{IsAnswer, refusal_of}
 use Rattle.kv_serve.specs.Pages.{place_of}
 use Rattle.kv_serve.specs.Content.{ReadsAs, ReadsItem}
 use Rattle.kv_serve.specs.Causes.{RoseBy, is_unsure, faults_told, IsFullAtLimit, drawn, faults_behind}
-use Rattle.kv_serve.specs.Causes.{last_value}
+use Rattle.kv_serve.specs.Causes.{last_value, IsPlain}
+use Rattle.kv_serve.specs.Transcript.{is_served}
 use Rattle.std.specs.Prelude.{◌-◌, ◌^◌}
 use Rattle.kv_disk.specs.declared.disk.Disk.{Ghosts}
 use Rattle.kv_base.specs.Crash.{Only}
@@ -64,6 +66,8 @@ abbrev pub TakesCalls : Reply → ℕ → ℕ → Type 0
 TakesCalls (Stored stamp) before now = now ≡ next_count (next_count before)
 TakesCalls (Found stamp value) before now = now ≡ next_count before
 TakesCalls (Missing stamp) before now = now ≡ before
+TakesCalls (Removed stamp) before now = ⊥
+TakesCalls (Absent stamp) before now = ⊥
 TakesCalls BadKey before now = now ≡ before
 TakesCalls TooLarge before now = now ≡ before
 TakesCalls (Full class) before now = now ≡ before
@@ -72,6 +76,7 @@ TakesCalls DiskFault before now = now ≡ next_count before
 TakesCalls (Unsure stamp) before now = (now ≡ next_count before)
     ⊎ (now ≡ next_count (next_count before))
 TakesCalls Closed before now = now ≡ before
+TakesCalls (StampsSpent number) before now = ⊥
 TakesCalls (Malformed offset) before now = ⊥
 
 -- one request and its reply lead from one store to another
@@ -82,6 +87,8 @@ pub record Steps {D : Type 0} {d : Ghosts D} (old : Store D d) (request : Reques
   pub holds : (history : List Write) → Holds old history
       → Holds new (history ++ option_to_list (acknowledged_by request reply))
   pub full : (history : List Write) → Holds old history → IsFullAtLimit history request reply
+  pub served : IsTrue (is_served request)
+  pub plain : IsPlain request reply
   pub stamped : IfSome (stamp_of reply) (λ stamp. (old.next ≤ stamp) × (stamp < new.next))
   pub later : old.next ≤ new.next
   pub closes : (reply ≡ Closed) ↔ ((old.closed ≡ true) × (refusal_of (only_class 7) request ≡ None))

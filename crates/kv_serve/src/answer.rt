@@ -16,6 +16,7 @@ impl<D: Disk> Worker for Store<D> {
         match request {
             RequestView::Put { key, value } => self.put(key, value),
             RequestView::Get { key } => self.get(key),
+            RequestView::Delete { .. } | RequestView::Flush => unreachable!(),
         }
     }
 }

@@ -1,10 +1,11 @@
-ghost use Rattle.std.specs.Prelude.{◌≡◌, ◌≢◌, ℕ, ◌≤◌, ◌^◌, true, MatchOption, IfSome};
+ghost use Rattle.std.specs.Prelude.{◌≡◌, ◌≢◌, ℕ, ◌≤◌, ◌^◌, true, IsTrue, MatchOption, IfSome};
 ghost use Rattle.kv_base.specs.Stream.{IsSpent};
-ghost use Rattle.kv_model.specs.Frames.{BeginsWithNoRequest, IsPartial, IsMalformed};
+ghost use Rattle.kv_model.specs.Frames.{IsPartial};
 ghost use Rattle.kv_frames.specs.Parse.{IsWhole};
 ghost use Rattle.kv_frames.specs.View.{request_of};
 ghost use Rattle.kv_serve.specs.Session.{Arrives, HasRequest, IsReady, NeedsMore, StaysDecided};
 ghost use Rattle.kv_serve.specs.Session.{faults_after};
+ghost use Rattle.kv_serve.specs.Transcript.{is_served, BeginsWithNoServed, IsUnserved};
 
 use crate::session::Session;
 use kv_base::{Failed, Sink, Source};
@@ -13,11 +14,12 @@ use kv_frames::{Parsed, RequestView, parse_request};
 /// What stands at the front of a session's bytes, and why no more are taken.
 #[derive(Clone, Copy, Debug, PartialEq, Eq)]
 pub enum Ready {
-    /// A whole request.
+    /// A whole request that is served.
     Request,
     /// Nothing: the input ended behind a whole frame.
     End,
-    /// No request, whatever bytes follow, or a part of a frame behind which the input ended.
+    /// No request that is served, whatever bytes follow, or a part of a frame behind which the
+    /// input ended.
     Malformed,
     /// A part of a frame or nothing, and 2^40 bytes were taken.
     Limit,
@@ -66,8 +68,8 @@ impl<So: Source, Si: Sink> Session<So, Si> {
         let ended = self.has_ended();
         let taken = self.taken();
         match parse_request(self.waiting()) {
-            Parsed::Whole { .. } => Some(Ready::Request),
-            Parsed::Malformed => Some(Ready::Malformed),
+            Parsed::Whole { request, .. } if serves(&request) => Some(Ready::Request),
+            Parsed::Whole { .. } | Parsed::Malformed => Some(Ready::Malformed),
             Parsed::More => look_behind(self.waiting(), ended, taken),
         }
     }
@@ -75,7 +77,8 @@ impl<So: Source, Si: Sink> Session<So, Si> {
     /// The request at the front, and how many bytes its frame has. Copies nothing.
     pub fn front(&self) -> (RequestView<'_>, usize)
         requires { HasRequest self.now.waiting }
-        ensures { IsWhole self.now.waiting (request_of result.0) result.1 }
+        ensures whole { IsWhole self.now.waiting (request_of result.0) result.1 }
+        ensures served { IsTrue (is_served (request_of result.0)) }
     {
         match parse_request(self.waiting()) {
             Parsed::Whole { request, length } => (request, length),
@@ -84,11 +87,18 @@ impl<So: Source, Si: Sink> Session<So, Si> {
     }
 }
 
+/// Whether requests of this kind are served: so far these are puts and gets.
+fn serves(request: &RequestView<'_>) -> bool
+    ensures { result ≡ is_served (request_of request.now) }
+{
+    matches!(request, RequestView::Put { .. } | RequestView::Get { .. })
+}
+
 /// The same where a part of a frame or nothing stands at the front.
 fn look_behind(waiting: &[u8], ended: bool, taken: u64) -> Option<Ready>
     requires partial { IsPartial waiting.now }
-    requires none { BeginsWithNoRequest waiting.now }
-    requires good { IsMalformed waiting.now → ⊥ }
+    requires none { BeginsWithNoServed waiting.now }
+    requires good { IsUnserved waiting.now → ⊥ }
     requires limit { taken ≤ 2 ^ 40 }
     ensures calm { IfSome result (λ ready. ready ≢ Ready.SourceFault) }
     ensures ready { MatchOption result (NeedsMore waiting.now ended taken)

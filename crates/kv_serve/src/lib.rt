@@ -19,8 +19,6 @@ mod send;
 mod serve;
 mod serve_disk;
 mod session;
-#[cfg(test)]
-mod session_tests;
 mod sizes;
 mod store;
 #[cfg(test)]

@@ -1,2 +1,3 @@
-mod ShelfLemmas
+mod EntryLemmas
+mod FileLemmas
 mod MemorySiteLemmas

@@ -2,10 +2,10 @@
 use Rattle.std.proofs.Common.{◌≡◌, ℕ, Bool, List, [], Option, None, Some, Result, Ok, Err, IfOk}
 use Rattle.std.proofs.Common.{refl, ap, subst}
 use Rattle.std.specs.Prelude.{IfSome, is_some}
-use Rattle.kv_site.specs.declared.shelf.Shelf.{Shelf}
-use Rattle.kv_base.specs.Memory.{Feed, Tray}
-use Rattle.kv_disk.specs.Memory.{Tape}
-use Rattle.kv_site.specs.Shelves.{Takes}
+use Rattle.kv_site.specs.declared.entry.Entry.{Entry}
+use Rattle.kv_base.specs.Memory.{MemorySource, MemorySink}
+use Rattle.kv_disk.specs.Memory.{RecordedDisk}
+use Rattle.kv_site.specs.Entries.{Takes}
 use Rattle.kv_site.specs.Held.{Held, TakesSession}
 use Rattle.kv_site.specs.MemorySite.{held_by}
 
@@ -22,8 +22,8 @@ if_some-map None P Q so holds = tt
 if_some-map (Some thing) P Q so holds = so thing holds
 
 -- what is held on these places, whatever was counted
-abbrev pub held_on : List (Shelf (Feed × Tray)) → List (Shelf Tape) → Option Tray → Bool
-    → Held Feed Tray Tape
+abbrev pub held_on : List (Entry (MemorySource × MemorySink)) → List (Entry RecordedDisk) → Option MemorySink → Bool
+    → Held MemorySource MemorySink RecordedDisk
 held_on sessions disks report lent =
     held_by (record {
       sessions = sessions;
@@ -36,8 +36,8 @@ held_on sessions disks report lent =
     })
 
 -- the ends of a session are taken from the folder without a name
-pub takes_session : (old new : List (Shelf (Feed × Tray))) (disks : List (Shelf Tape))
-    (report : Option Tray) (lent : Bool) (n : ℕ) (ends : Feed × Tray) → Takes old new [] n ends
+pub takes_session : (old new : List (Entry (MemorySource × MemorySink))) (disks : List (Entry RecordedDisk))
+    (report : Option MemorySink) (lent : Bool) (n : ℕ) (ends : MemorySource × MemorySink) → Takes old new [] n ends
     → TakesSession (held_on old disks report lent) (held_on new disks report lent) n ends
 takes_session old new disks report lent n ends takes = record {
   was = takes.was;

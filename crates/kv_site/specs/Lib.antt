@@ -1,6 +1,7 @@
 pub mod Held
-pub mod FileMarks
+pub mod PageFile
+pub mod FilePages
 pub mod FileSite
-pub mod Shelves
+pub mod Entries
 pub mod MemorySite
 pub mod MemoryFields

@@ -1,147 +1,103 @@
-ghost use Rattle.std.specs.Prelude.{◌≡◌, ◌≤◌, ◌<◌, ◌-◌, ◌*◌, ◌^◌, ℕ, true, false, Ok, IsErr};
-ghost use Rattle.std.specs.Prelude.{replicate, set, vec_len, IsTrue, IfOk, OnOk, OnErr};
+ghost use Rattle.std.specs.Prelude.{◌≡◌, ◌≤◌, ◌<◌, ◌-◌, ◌^◌, ℕ, false, IsTrue, IfOk, OnOk, OnErr};
+ghost use Rattle.std.specs.Prelude.{map, set, vec_len, true, if◌then◌else◌};
 ghost use Rattle.kv_base.specs.Calls.{next_count};
 ghost use Rattle.kv_base.specs.Fault.{HasCause, Counted};
-ghost use Rattle.kv_base.specs.Crash.{Advances};
+ghost use Rattle.kv_base.specs.Image.{zero_page, with_page};
+ghost use Rattle.kv_base.specs.Crash.{WrittenOrNot, Advances};
 ghost use Rattle.kv_disk.specs.Plain.{no_choices};
-ghost use Rattle.kv_site.specs.FileMarks.{SameMarks, IsSynced, HasUnsynced, untold};
+ghost use Rattle.kv_site.specs.PageFile.{image_in, CountedIn, SyncsInOrder};
 
-use crate::TakeFault;
-use crate::folder::{make_folder, open_pages};
-use crate::page_io::{page_count, read_page, write_page};
+use crate::page_file::PageFile;
 use kv_base::Failed;
 use kv_disk::Disk;
-use std::alloc::Global;
-use std::fs::File;
-use std::io;
 use std::marker::Model;
 
-const FILES: usize = 14;
-
-/// A worker's disk in files of its own: file f of worker w in the folder DIR is `DIR/w/f`, both
-/// numbers in decimal. Each file stays open, and a page costs one call of the system, more only
-/// where that moved a part of it. It tells nothing of what it reads, nor of crashes.
+/// A worker's disk in files of pages, one open handle each. A sync covers the files that were
+/// written since they were last made durable, in order, up to the first that fails: that one and
+/// all behind it stay for the next sync. Behind the 14 files stand three folders, which are synced
+/// the same way.
 ///
-/// A sync covers the files that were written since the last one. A file that was there when the
-/// disk was taken counts as written until its first sync that succeeds, and the first such sync
-/// covers the folders DIR/w and DIR and the parent of DIR too.
+/// It tells what it reads where its files do, and nothing of crashes.
 #[derive(Drop)]
-pub struct FileDisk {
-    files: Vec<File>,
-    unsynced: [bool; 14],
-    folders: Vec<File>,
+pub struct FileDisk<F> {
+    files: Vec<F>,
     calls: u64,
     faults: u64,
 }
 
-impl Model for FileDisk {
+impl<F> Model for FileDisk<F> {
     ghost use Rattle.std.specs.Prelude.{◌≡◌, vec_len};
-    ghost use Rattle.kv_site.specs.FileMarks.{FileMarks};
+    ghost use Rattle.kv_site.specs.PageFile.{DiskFiles};
 
-    ghost Value = { FileMarks };
+    ghost Value = { DiskFiles F };
 
-    ghost view = { λ d. record {
-      unsynced = d.unsynced;
-      folders = vec_len d.folders;
-      calls = d.calls;
-      faults = d.faults;
-    } };
+    ghost view = { λ d. record { files = d.files.items; calls = d.calls; faults = d.faults } };
 
-    ghost invariant = { λ d. vec_len d.files ≡ 14 };
+    ghost invariant = { λ d. vec_len d.files ≡ 17 };
 }
 
-// Opens the 14 files in the folder.
-fn open_files(rt: &HostRuntime, alloc: Global, home: &str) -> Result<Vec<File>, TakeFault>
-    ensures { IfOk result (λ files. vec_len files ≡ 14) }
-{
-    let mut files = Vec::with_capacity(alloc, FILES)?;
-    for file in 0..FILES {
-        let path = format!(in alloc; "{home}/{file}")?;
-        files.push(open_pages(rt, path.as_str())?)?;
-    }
-    Ok(files)
-}
-
-// Opens a folder, its own folder and the parent of that, the last of which is opened first.
-fn open_folders(
-    rt: &HostRuntime,
-    alloc: Global,
-    folder: &str,
-    home: &str,
-) -> Result<Vec<File>, TakeFault>
-    ensures { IfOk result (λ folders. vec_len folders ≡ 3) }
-{
-    let parent = format!(in alloc; "{folder}/..")?;
-    let mut folders = Vec::with_capacity(alloc, 3)?;
-    folders.push(File::open(rt, parent.as_str())?)?;
-    folders.push(File::open(rt, folder)?)?;
-    folders.push(File::open(rt, home)?)?;
-    Ok(folders)
-}
-
-impl FileDisk {
-    /// Opens the worker's disk in this folder. What is missing of the folder, of the worker's own
-    /// and of its files is made; the parent of the folder has to be there.
-    pub fn open(
-        rt: &HostRuntime,
-        alloc: Global,
-        folder: &str,
-        worker: u32,
-    ) -> Result<FileDisk, TakeFault>
-        ensures ok { IfOk result (λ disk. disk ≡ record {
-          unsynced = replicate 14 true;
-          folders = 3;
-          calls = 0;
-          faults = 0;
-        }) }
+impl<F> FileDisk<F> {
+    /// A disk of 14 files and three folders.
+    pub fn new(files: Vec<F>) -> FileDisk<F>
+        requires { vec_len files ≡ 17 }
+        ensures { result ≡ record { files = files.items; calls = 0; faults = 0 } }
     {
-        let home = format!(in alloc; "{folder}/{worker}")?;
-        make_folder(rt, folder)?;
-        make_folder(rt, home.as_str())?;
-        let files = open_files(rt, alloc, home.as_str())?;
-        let folders = open_folders(rt, alloc, folder, home.as_str())?;
-        Ok(FileDisk {
+        FileDisk {
             files,
-            unsynced: [true; FILES],
-            folders,
             calls: 0,
             faults: 0,
-        })
+        }
     }
 
-    // Counts a fault.
-    fn fail(&mut self) -> Failed
-        ensures { self.new ≡ record self.old { faults = next_count self.old.faults } }
+    // Counts a call, and a fault where it failed.
+    fn count(&mut self, failed: bool)
+        ensures { self.new ≡ record self.old {
+          calls = next_count self.old.calls;
+          faults = if failed then next_count self.old.faults else self.old.faults;
+        } }
     {
-        self.faults = self.faults.saturating_add(1);
-        Failed
-    }
-
-    // Syncs the files that were written, and then the folders that aren't durable yet.
-    fn sync_written(&mut self) -> io::Result<()>
-        ensures done { OnOk result (IsSynced self.new) }
-        ensures undone { OnErr result (HasUnsynced self.new) }
-        ensures calls { self.new.calls ≡ self.old.calls }
-        ensures faults { self.new.faults ≡ self.old.faults }
-    {
-        for file in 0..FILES {
-            if self.unsynced[file] {
-                self.files[file].sync_data()?;
-                self.unsynced[file] = false;
-            }
+        self.calls = self.calls.saturating_add(1);
+        if failed {
+            self.faults = self.faults.saturating_add(1);
         }
-        while let Some(folder) = self.folders.last() {
-            folder.sync_all()?;
-            self.folders.pop();
-        }
-        Ok(())
     }
 }
 
-impl Disk for FileDisk {
-    ghost tells = { false };
+// Makes a file durable where it isn't.
+fn sync_file<F: PageFile>(file: &mut F) -> Result<(), Failed>
+    ensures seen { IsTrue F.tells → F.reads file.new ≡ F.reads file.old }
+    ensures done { OnOk result (F.synced file.new ≡ true) }
+    ensures was { OnErr result (F.synced file.old ≡ false) }
+    ensures still { OnErr result (F.synced file.new ≡ false) }
+{
+    if file.is_synced() {
+        return Ok(());
+    }
+    file.sync()
+}
 
-    ghost seen = { λ _. untold };
+// Makes the files durable that aren't, in order, up to the first that fails.
+fn sync_files<F: PageFile>(files: &mut Vec<F>) -> Result<(), Failed>
+    requires { vec_len files.old ≡ 17 }
+    ensures seen { IsTrue F.tells
+        → image_in F.reads files.new.items ≡ image_in F.reads files.old.items }
+    ensures marks { SyncsInOrder (map F.synced files.old.items) (map F.synced files.new.items)
+        result }
+    ensures length { vec_len files.new ≡ 17 }
+{
+    for at in 0..files.len() {
+        match sync_file(&mut files[at]) {
+            Ok(()) => {}
+            Err(Failed) => return Err(Failed),
+        }
+    }
+    Ok(())
+}
+
+impl<F: PageFile> Disk for FileDisk<F> {
+    ghost tells = { F.tells };
+
+    ghost seen = { λ d. image_in F.reads d.files };
 
     ghost leaves = { λ _. no_choices };
 
@@ -154,75 +110,76 @@ impl Disk for FileDisk {
     fn read(&mut self, file: u8, page: u32, buf: &mut [u8; 4096]) -> Result<(), Failed>
         requires file { file ≤ 13 }
         requires page { page < 2 ^ 32 - 1 }
+        ensures content { IsTrue F.tells
+            → OnOk result (buf.new ≡ image_in F.reads self.old.files file page) }
+        ensures seen { IsTrue F.tells
+            → image_in F.reads self.new.files ≡ image_in F.reads self.old.files }
         ensures past { Advances self.old.calls self.new.calls no_choices no_choices }
         ensures cause { HasCause self.old.faults self.new.faults result }
         ensures counted { Counted self.old.faults self.new.faults result }
 
-        // what the next sync covers
-        ensures kept { SameMarks self.old self.new }
+        // its fault is that of the file, and the next sync covers what it did
+        ensures file { CountedIn F.faults file self.old.files self.new.files result }
+        ensures kept { map F.synced self.new.files ≡ map F.synced self.old.files }
     {
-        self.calls = self.calls.saturating_add(1);
-        match read_page(&self.files[file as usize], offset_of(page), buf) {
-            Ok(_) => Ok(()),
-            Err(_) => Err(self.fail()),
-        }
+        let outcome = self.files[file as usize].read(page, buf);
+        self.count(outcome.is_err());
+        outcome
     }
 
     fn write(&mut self, file: u8, page: u32, content: &[u8; 4096]) -> Result<(), Failed>
         requires file { file ≤ 13 }
         requires page { page < 2 ^ 32 - 1 }
+        ensures written { IsTrue F.tells → OnOk result (image_in F.reads self.new.files
+            ≡ with_page (image_in F.reads self.old.files) file page content.now) }
+        ensures seen { IsTrue F.tells → WrittenOrNot file page content.now
+            (image_in F.reads self.old.files) (image_in F.reads self.new.files) }
         ensures past { Advances self.old.calls self.new.calls no_choices no_choices }
         ensures cause { HasCause self.old.faults self.new.faults result }
         ensures counted { Counted self.old.faults self.new.faults result }
 
-        // what the next sync covers
-        ensures marked { self.new.unsynced ≡ set self.old.unsynced file true }
-        ensures kept { self.new.folders ≡ self.old.folders }
+        // its fault is that of the file, and the next sync covers this file too
+        ensures file { CountedIn F.faults file self.old.files self.new.files result }
+        ensures marked { map F.synced self.new.files
+            ≡ set (map F.synced self.old.files) file false }
     {
-        self.calls = self.calls.saturating_add(1);
-        self.unsynced[file as usize] = true;
-        match write_page(&self.files[file as usize], offset_of(page), content) {
-            Ok(_) => Ok(()),
-            Err(_) => Err(self.fail()),
-        }
+        let outcome = self.files[file as usize].write(page, content);
+        self.count(outcome.is_err());
+        outcome
     }
 
     fn sync(&mut self) -> Result<(), Failed>
+        ensures seen { IsTrue F.tells
+            → image_in F.reads self.new.files ≡ image_in F.reads self.old.files }
         ensures past { Advances self.old.calls self.new.calls no_choices no_choices }
         ensures cause { HasCause self.old.faults self.new.faults result }
         ensures counted { Counted self.old.faults self.new.faults result }
 
-        // what the next sync covers
-        ensures done { OnOk result (IsSynced self.new) }
-        ensures still { OnErr result (HasUnsynced self.new) }
+        // what is durable then
+        ensures marks { SyncsInOrder (map F.synced self.old.files) (map F.synced self.new.files)
+            result }
     {
-        self.calls = self.calls.saturating_add(1);
-        match self.sync_written() {
-            Ok(()) => Ok(()),
-            Err(_) => Err(self.fail()),
-        }
+        let outcome = sync_files(&mut self.files);
+        self.count(outcome.is_err());
+        outcome
     }
 
     fn length(&mut self, file: u8) -> Result<u32, Failed>
         requires { file ≤ 13 }
+        ensures rest { IsTrue F.tells → IfOk result (λ pages. (p : ℕ) → pages ≤ p
+            → image_in F.reads self.old.files file p ≡ zero_page) }
+        ensures seen { IsTrue F.tells
+            → image_in F.reads self.new.files ≡ image_in F.reads self.old.files }
         ensures past { Advances self.old.calls self.new.calls no_choices no_choices }
         ensures cause { HasCause self.old.faults self.new.faults result }
         ensures counted { Counted self.old.faults self.new.faults result }
 
-        // what the next sync covers
-        ensures kept { SameMarks self.old self.new }
+        // its fault is that of the file, and the next sync covers what it did
+        ensures file { CountedIn F.faults file self.old.files self.new.files result }
+        ensures kept { map F.synced self.new.files ≡ map F.synced self.old.files }
     {
-        self.calls = self.calls.saturating_add(1);
-        match page_count(&self.files[file as usize]) {
-            Ok(pages) => Ok(pages),
-            Err(_) => Err(self.fail()),
-        }
+        let outcome = self.files[file as usize].length();
+        self.count(outcome.is_err());
+        outcome
     }
-}
-
-// Where a page begins in its file.
-fn offset_of(page: u32) -> u64
-    ensures { result ≡ page * 4096 }
-{
-    u64::from(page) * 4096
 }

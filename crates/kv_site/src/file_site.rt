@@ -3,8 +3,10 @@ ghost use Rattle.kv_site.specs.FileSite.{Counts};
 ghost use Rattle.kv_site.specs.Held.{nothing_held};
 
 use crate::ends::{Input, Output};
-use crate::{FileDisk, Site, TakeFault};
+use crate::folder::open_disk;
+use crate::{FileDisk, FilePages, Site, TakeFault};
 use kv_base::{ReaderSource, WriterSink};
+use std::fs::File;
 use std::marker::Model;
 
 /// The real site: its disks are folders, its ends are standard input, standard output, files and
@@ -61,7 +63,7 @@ impl Site for FileSite {
 
     type Out = WriterSink<Output>;
 
-    type Pages = FileDisk;
+    type Pages = FileDisk<FilePages<File>>;
 
     ghost tells = { false };
 
@@ -90,7 +92,7 @@ impl Site for FileSite {
         ensures later { self.old ≤ self.new }
         ensures counted { Counts self.old self.new result }
     {
-        let outcome = FileDisk::open(&self.rt, self.rt.alloc(), folder, worker);
+        let outcome = open_disk(&self.rt, self.rt.alloc(), folder, worker);
         self.count(outcome)
     }
 

@@ -3,22 +3,26 @@
 #![tactic(auto)]
 
 mod ends;
+mod entries;
+mod entry;
 mod fault;
 mod file_disk;
+mod file_pages;
 mod file_site;
 mod folder;
 mod memory_site;
+mod page_file;
 mod page_io;
-mod shelf;
-mod shelves;
 mod site;
-mod tally;
+mod take_counter;
 #[cfg(test)]
 mod tests;
 
 pub use ends::{Input, Output};
 pub use fault::TakeFault;
 pub use file_disk::FileDisk;
+pub use file_pages::FilePages;
 pub use file_site::FileSite;
 pub use memory_site::MemSite;
+pub use page_file::PageFile;
 pub use site::Site;

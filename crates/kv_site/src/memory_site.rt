@@ -7,8 +7,8 @@ ghost use Rattle.kv_site.specs.Held.{nothing_held, TakesSession, GivesSession, T
 ghost use Rattle.kv_site.specs.Held.{GivesDisk, TakesReport, GivesReport};
 ghost use Rattle.kv_site.specs.MemorySite.{held_by, Refuses, SameCounts, PutsSession, PutsDisk};
 
-use crate::shelves::Shelves;
-use crate::tally::Tally;
+use crate::entries::Entries;
+use crate::take_counter::TakeCounter;
 use crate::{Site, TakeFault};
 use kv_base::{Calls, MemSink, MemSource, NoMemory};
 use kv_disk::MemDisk;
@@ -24,30 +24,30 @@ const NO_FOLDER: &[u8] = &[];
 #[derive(Drop)]
 pub struct MemSite {
     alloc: Global,
-    sessions: Shelves<(MemSource, MemSink)>,
-    disks: Shelves<MemDisk>,
+    sessions: Entries<(MemSource, MemSink)>,
+    disks: Entries<MemDisk>,
     report: Option<MemSink>,
     report_lent: bool,
-    tally: Tally,
+    counter: TakeCounter,
 }
 
 impl Model for MemSite {
-    ghost use Rattle.kv_site.specs.MemorySite.{Stock};
+    ghost use Rattle.kv_site.specs.MemorySite.{HeldThings};
     ghost use Rattle.kv_site.specs.MemoryFields.{HasNoFolder};
 
-    ghost Value = { Stock };
+    ghost Value = { HeldThings };
 
     ghost view = { λ s. record {
-      sessions = s.sessions.shelves.items;
-      disks = s.disks.shelves.items;
+      sessions = s.sessions.entries.items;
+      disks = s.disks.entries.items;
       report = s.report;
       report_lent = s.report_lent;
-      failing = s.tally.failing;
-      takes = s.tally.takes;
-      faults = s.tally.faults;
+      failing = s.counter.failing;
+      takes = s.counter.takes;
+      faults = s.counter.faults;
     } };
 
-    ghost invariant = { λ s. HasNoFolder s.sessions.shelves.items };
+    ghost invariant = { λ s. HasNoFolder s.sessions.entries.items };
 }
 
 impl MemSite {
@@ -66,11 +66,11 @@ impl MemSite {
     {
         MemSite {
             alloc,
-            sessions: Shelves::new(alloc),
-            disks: Shelves::new(alloc),
+            sessions: Entries::new(alloc),
+            disks: Entries::new(alloc),
             report: None,
             report_lent: false,
-            tally: Tally {
+            counter: TakeCounter {
                 failing,
                 takes: 0,
                 faults: 0,
@@ -168,12 +168,12 @@ impl Site for MemSite {
         // exactly when it fails
         ensures exact { Refuses self.old self.new ((held_by self.old).sessions number) result }
     {
-        let taken = if self.tally.begin() {
+        let taken = if self.counter.begin() {
             None
         } else {
             self.sessions.take(NO_FOLDER, number)
         };
-        self.tally.end(taken)
+        self.counter.end(taken)
     }
 
     fn give_session(&mut self, number: u32, source: MemSource, sink: MemSink)
@@ -198,12 +198,12 @@ impl Site for MemSite {
         ensures exact { Refuses self.old self.new ((held_by self.old).disks folder.now worker)
             result }
     {
-        let taken = if self.tally.begin() {
+        let taken = if self.counter.begin() {
             None
         } else {
             self.disks.take(folder.as_bytes(), worker)
         };
-        self.tally.end(taken)
+        self.counter.end(taken)
     }
 
     fn give_disk(&mut self, worker: u32, disk: MemDisk)
@@ -226,13 +226,13 @@ impl Site for MemSite {
         // exactly when it fails
         ensures exact { Refuses self.old self.new self.old.report result }
     {
-        let taken = if self.tally.begin() {
+        let taken = if self.counter.begin() {
             None
         } else {
             self.report.take()
         };
         self.report_lent = self.report_lent || taken.is_some();
-        self.tally.end(taken)
+        self.counter.end(taken)
     }
 
     fn give_report(&mut self, sink: MemSink)

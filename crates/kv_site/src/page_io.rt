@@ -8,28 +8,24 @@ use std::os::unix::fs::FileExt;
 /// Bytes of a page.
 pub const PAGE: usize = 4096;
 
-/// Reads a page that begins at the offset, and answers how many of its bytes the file has. The rest
-/// is zeros. A read that gives fewer bytes goes on until one gives none.
-pub fn read_page<F: FileExt>(file: &F, offset: u64, page: &mut [u8; 4096]) -> io::Result<usize>
-    ensures rest { IfOk result (λ n. (n ≤ 4096) × (drop n page.new ≡ replicate (4096 - n) 0)) }
-{
+/// Reads a page that begins at the offset. A read that gives fewer bytes goes on until one gives
+/// none; what the file doesn't have is zeros.
+pub fn read_page<F: FileExt>(file: &F, offset: u64, page: &mut [u8; 4096]) -> io::Result<()> {
     let mut at = 0;
     while at < PAGE {
         let n = file.read_at(&mut page[at..], offset.wrapping_add(at as u64))?;
         if n == 0 {
             page[at..].fill(0);
-            return Ok(at);
+            return Ok(());
         }
         at += n;
     }
-    Ok(at)
+    Ok(())
 }
 
-/// Writes a page at the offset, and answers how many of its bytes the file took: all of them. A
-/// write that takes fewer goes on, and one that takes none is an error.
-pub fn write_page<F: FileExt>(file: &F, offset: u64, page: &[u8; 4096]) -> io::Result<usize>
-    ensures whole { IfOk result (λ n. n ≡ 4096) }
-{
+/// Writes a page at the offset. A write that takes fewer bytes goes on, and one that takes none is
+/// an error.
+pub fn write_page<F: FileExt>(file: &F, offset: u64, page: &[u8; 4096]) -> io::Result<()> {
     let mut at = 0;
     while at < page.len() {
         match file.write_at(&page[at..], offset.wrapping_add(at as u64))? {
@@ -37,7 +33,7 @@ pub fn write_page<F: FileExt>(file: &F, offset: u64, page: &[u8; 4096]) -> io::R
             n => at += n,
         }
     }
-    Ok(at)
+    Ok(())
 }
 
 /// How many pages a file has, the last one perhaps in part.

@@ -1,11 +1,11 @@
 ghost use Rattle.std.specs.Prelude.{◌≤◌, ◌<◌, ◌-◌, ◌^◌};
 
 use super::*;
-use crate::page_io::{read_page, write_page};
 use kv_base::{Bytes, Calls, Failed, MemSink, MemSource, Sink, Source};
 use kv_disk::{Disk, MemDisk};
 use std::alloc::Global;
 use std::cell::Cell;
+use std::fs::{Metadata, OpenFile};
 use std::os::unix::fs::FileExt;
 use std::test::Fail;
 use std::{fs, io};
@@ -138,6 +138,28 @@ fn page_of<D: Disk>(disk: &mut D, file: u8, page: u32) -> Result<[u8; 4096], Fai
     Ok(buf)
 }
 
+fn write_page<D: Disk>(
+    disk: &mut D,
+    file: u8,
+    page: u32,
+    content: &[u8; 4096],
+) -> Result<(), Failed>
+    requires file { file ≤ 13 }
+    requires page { page < 2 ^ 32 - 1 }
+{
+    disk.write(file, page, content)
+}
+
+fn sync<D: Disk>(disk: &mut D) -> Result<(), Failed> {
+    disk.sync()
+}
+
+fn length_of<D: Disk>(disk: &mut D, file: u8) -> Result<u32, Failed>
+    requires { file ≤ 13 }
+{
+    disk.length(file)
+}
+
 #[test]
 fn a_disk_of_files_keeps_its_pages(rt: HostRuntime) -> Result<(), Fail> {
     let folder = "kv_site_test_pages";
@@ -156,6 +178,11 @@ fn a_disk_of_files_keeps_its_pages(rt: HostRuntime) -> Result<(), Fail> {
     disk.write(1, 0, &[8; 4096])?;
     disk.sync()?;
     disk.sync()?;
+    assert_eq!(rt;
+        take_disk(&mut site, folder, 3).err(),
+        Some(TakeFault::Failed),
+        "its folder is taken"
+    );
     give_disk(&mut site, 3, disk);
     assert_eq!(rt; fs::metadata(&rt, "kv_site_test_pages/3/1")?.len(), 12288);
     let mut disk = take_disk(&mut site, folder, 3)?;
@@ -175,25 +202,6 @@ fn a_disk_of_files_keeps_its_pages(rt: HostRuntime) -> Result<(), Fail> {
         "another worker's files are its own"
     );
     drop((disk, other));
-    fs::remove_dir_all(&rt, folder)?;
-    Ok(())
-}
-
-#[test]
-fn a_part_of_a_page_is_read_with_zeros(rt: HostRuntime) -> Result<(), Fail> {
-    let folder = "kv_site_test_part";
-    let _ = fs::remove_dir_all(&rt, folder);
-    fs::create_dir_all(&rt, "kv_site_test_part/0")?;
-    fs::write(&rt, "kv_site_test_part/0/8", [6; 5000].as_slice())?;
-    let mut site = FileSite::new(rt);
-    let mut disk = take_disk(&mut site, folder, 0)?;
-    // 5,000 bytes are a page of 4,096 and 904 bytes.
-    assert_eq!(rt; disk.length(8), Ok(2));
-    assert_eq!(rt; page_of(&mut disk, 8, 0)?, [6; 4096]);
-    let mut expected = [0; 4096];
-    expected[..904].fill(6);
-    assert_eq!(rt; page_of(&mut disk, 8, 1)?, expected);
-    drop(disk);
     fs::remove_dir_all(&rt, folder)?;
     Ok(())
 }
@@ -253,59 +261,180 @@ fn a_session_reads_and_writes_files(rt: HostRuntime) -> Result<(), Fail> {
     Ok(())
 }
 
-// A file of sixes, of which a call moves at most so many bytes.
+// A file in memory. A call moves at most so many bytes, and fails at the listed numbers, counted
+// from 1 over all its calls.
 #[derive(Drop)]
-struct Slow {
-    bytes: usize,
+struct MemoryFile {
+    bytes: Cell<[u8; 8192]>,
+    length: Cell<usize>,
     most: usize,
-    taken: Cell<usize>,
+    failing: Calls,
+    calls: Cell<u64>,
 }
 
-impl FileExt for Slow {
+impl MemoryFile {
+    fn new(length: usize, most: usize, failing: Calls) -> MemoryFile {
+        let mut bytes = [0; 8192];
+        for at in 0..8192usize {
+            bytes[at] = pattern(at);
+        }
+        MemoryFile {
+            bytes: Cell::new(bytes),
+            length: Cell::new(length),
+            most,
+            failing,
+            calls: Cell::new(0),
+        }
+    }
+
+    fn begin(&self) -> io::Result<()> {
+        self.calls.set(self.calls.get().saturating_add(1));
+        if self.failing.has(self.calls.get()) {
+            return Err(io::Error::from(io::ErrorKind::Other));
+        }
+        Ok(())
+    }
+}
+
+// The byte at an offset of a new file in memory.
+fn pattern(at: usize) -> u8 {
+    (at % 251) as u8
+}
+
+impl FileExt for MemoryFile {
     fn read_at(&self, buf: &mut [u8], offset: u64) -> io::Result<usize> {
-        let left = self.bytes.saturating_sub(offset as usize);
-        let n = buf.len().min(self.most).min(left);
-        buf[..n].fill(6);
+        self.begin()?;
+        let bytes = self.bytes.get();
+        let length = self.length.get().min(8192);
+        let from = (offset as usize).min(length);
+        let n = buf.len().min(self.most).min(length - from);
+        buf[..n].copy_from_slice(&bytes[from..from + n]);
         Ok(n)
     }
 
-    fn write_at(&self, buf: &[u8], _offset: u64) -> io::Result<usize> {
-        let n = buf.len().min(self.most);
-        self.taken.set(self.taken.get().wrapping_add(n));
+    fn write_at(&self, buf: &[u8], offset: u64) -> io::Result<usize> {
+        self.begin()?;
+        let mut bytes = self.bytes.get();
+        let from = (offset as usize).min(8192);
+        let n = buf.len().min(self.most).min(8192 - from);
+        bytes[from..from + n].copy_from_slice(&buf[..n]);
+        self.bytes.set(bytes);
+        self.length.set(self.length.get().max(from + n));
         Ok(n)
     }
+}
+
+impl OpenFile for MemoryFile {
+    fn metadata(&self) -> io::Result<Metadata> {
+        self.begin()?;
+        Ok(Metadata::of_file(self.length.get() as u64))
+    }
+
+    fn set_len(&self, _size: u64) -> io::Result<()> {
+        self.begin()
+    }
+
+    fn sync_all(&self) -> io::Result<()> {
+        self.begin()
+    }
+
+    fn sync_data(&self) -> io::Result<()> {
+        self.begin()
+    }
+}
+
+// A disk of files in memory of 5,000 bytes each, of which a call moves at most so many bytes. File
+// 3 and the folder of all files fail at their listed calls.
+fn memory_disk(
+    alloc: Global,
+    most: usize,
+    of_file: &[u32],
+    of_folder: &[u32],
+) -> Result<FileDisk<FilePages<MemoryFile>>, Fail> {
+    let mut files = Vec::with_capacity(alloc, 17)?;
+    for number in 0..17u8 {
+        let failing = match number {
+            3 => Calls::of(alloc, of_file)?,
+            14 => Calls::of(alloc, of_folder)?,
+            _ => Calls::none(),
+        };
+        let file = MemoryFile::new(5000, most, failing);
+        files.push(if number < 14 {
+            FilePages::of_file(file)
+        } else {
+            FilePages::of_folder(file)
+        })?;
+    }
+    Ok(FileDisk::new(files))
 }
 
 #[test]
 fn a_page_that_moves_in_part_goes_on(rt: HostRuntime) -> Result<(), Fail> {
-    let slow = |bytes, most| Slow {
-        bytes,
-        most,
-        taken: Cell::new(0),
-    };
-    let file = slow(5000, 1000);
-    assert_eq!(rt; write_page(&file, 0, &[1; 4096])?, 4096);
-    assert_eq!(rt; file.taken.get(), 4096);
-    // bytes of the file, where the page begins, how many bytes of it the file has
-    let rows = [
-        (5000, 0, 4096),
-        (5000, 4096, 904),
-        (5000, 8192, 0),
-        (4096, 0, 4096),
-    ];
-    for (bytes, offset, expected) in rows {
-        let mut page = [1; 4096];
-        let mut whole = [0; 4096];
-        if expected <= 4096 {
-            whole[..expected].fill(6);
+    let mut disk = memory_disk(rt.alloc(), 1000, &[], &[])?;
+    // page, how many of its bytes the file has
+    for (page, bytes) in [(0, 4096), (1, 904), (2, 0)] {
+        let mut expected = [0; 4096];
+        for at in 0..4096usize {
+            if at < bytes {
+                expected[at] = pattern(page as usize * 4096 + at);
+            }
         }
-        let n = read_page(&slow(bytes, 1000), offset, &mut page)?;
-        assert_eq!(rt; n, expected, "{bytes} bytes, page at {offset}");
-        assert_eq!(rt; page, whole, "{bytes} bytes, page at {offset}");
+        assert_eq!(rt; page_of(&mut disk, 3, page)?, expected, "page {page}");
     }
-    assert!(rt;
-        write_page(&slow(0, 0), 0, &[1; 4096]).is_err(),
-        "it takes no byte"
+    assert_eq!(rt; length_of(&mut disk, 3), Ok(2));
+    let mut content = [0; 4096];
+    for at in 0..4096usize {
+        content[at] = pattern(at / 7);
+    }
+    let first = page_of(&mut disk, 3, 0)?;
+    write_page(&mut disk, 3, 1, &content)?;
+    assert_eq!(rt; page_of(&mut disk, 3, 1)?, content);
+    assert_eq!(rt; page_of(&mut disk, 3, 0)?, first, "the page in front stays");
+    write_page(&mut disk, 3, 1, &[0; 4096])?;
+    assert_eq!(rt;
+        page_of(&mut disk, 3, 1)?,
+        [0; 4096],
+        "zeros are written too"
     );
+    Ok(())
+}
+
+#[test]
+fn a_failed_call_of_a_file_is_a_fault(rt: HostRuntime) -> Result<(), Fail> {
+    let alloc = rt.alloc();
+    // bytes that a call moves, the call of file 3 that fails; what a read, a write, a sync and a
+    // length then answer
+    let fails = Err(Failed);
+    let rows = [
+        (4096, 1, [fails, Ok(()), Ok(()), Ok(())]),
+        (4096, 2, [Ok(()), fails, Ok(()), Ok(())]),
+        (4096, 3, [Ok(()), Ok(()), fails, Ok(())]),
+        (4096, 4, [Ok(()), Ok(()), Ok(()), fails]),
+        (1000, 3, [fails, Ok(()), Ok(()), Ok(())]),
+        (1000, 8, [Ok(()), fails, Ok(()), Ok(())]),
+        (0, 9, [Ok(()), fails, Ok(()), Ok(())]),
+    ];
+    for (most, call, expected) in rows {
+        let mut disk = memory_disk(alloc, most, &[call], &[])?;
+        let found = [
+            page_of(&mut disk, 3, 0).map(|_| ()),
+            write_page(&mut disk, 3, 0, &[7; 4096]),
+            sync(&mut disk),
+            length_of(&mut disk, 3).map(|_| ()),
+        ];
+        assert_eq!(rt; found, expected, "{most} bytes a call, call {call} fails");
+    }
+    Ok(())
+}
+
+#[test]
+fn a_sync_goes_on_where_the_last_one_failed(rt: HostRuntime) -> Result<(), Fail> {
+    // File 3 fails at its first sync, and the folder at its first. No file is synced twice: the
+    // second call of either would fail too.
+    let mut disk = memory_disk(rt.alloc(), 4096, &[1, 3], &[1, 3])?;
+    let rows = [Err(Failed), Err(Failed), Ok(()), Ok(())];
+    for (i, expected) in rows.iter().enumerate() {
+        assert_eq!(rt; sync(&mut disk), *expected, "sync {i}");
+    }
     Ok(())
 }

@@ -1,5 +1,5 @@
 -- the hash of the bytes so far
-use Rattle.std.proofs.Common.{◌≡◌, ◌^◌, ◌<◌, take}
+use Rattle.std.proofs.Common.{◌≡◌, take}
 use Rattle.kv_base.specs.Partition.{hash_of}
 use Rattle.kv_base.proofs.partition.owner.Given as goal
 

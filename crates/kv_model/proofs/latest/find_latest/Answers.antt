@@ -1,7 +1,7 @@
 -- One more write is compared with the best so far.
-use Rattle.std.proofs.Common.{rules, arith, ◌≡◌, ap, Some}
+use Rattle.std.proofs.Common.{arith, ap, Some}
 use Rattle.std.proofs.lemmas.List.{map_more}
-use Rattle.kv_model.specs.Oracle.{write_of, preferred}
+use Rattle.kv_model.specs.Oracle.{write_of}
 use Rattle.kv_model.proofs.HistoryLemmas.{latest-push}
 use Rattle.kv_model.proofs.latest.find_latest.Goals as goal
 use Rattle.kv_model.proofs.latest.find_latest.Goals.{then-counts, else-counts}

@@ -1,5 +1,5 @@
 -- The pages so far are zero, and nothing has changed.
-use Rattle.std.proofs.Common.{◌≡◌, ℕ, ◌<◌, ◌≤◌, IsTrue}
+use Rattle.std.proofs.Common.{◌≡◌, ℕ, ◌<◌, IsTrue}
 use Rattle.kv_base.specs.Image.{zero_page}
 use Rattle.kv_base.specs.Crash.{Same}
 use Rattle.kv_serve.proofs.open.check_file.Given as goal

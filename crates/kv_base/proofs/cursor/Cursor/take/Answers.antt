@@ -1,6 +1,5 @@
 -- The front of the buffer has the next bytes, so these passed from what was left to what is taken.
-use Rattle.std.proofs.Common.{◌≡◌, ◌+◌, ◌≤◌, ◌++◌, length, take, drop, ap, sym, ◌∙◌, arith, rules}
-use Rattle.std.proofs.Common.{length-drop}
+use Rattle.std.proofs.Common.{◌≡◌, ◌+◌, ◌≤◌, length, take, drop, arith}
 use Rattle.std.proofs.lemmas.Grind.{common_steps}
 use Rattle.kv_base.proofs.StreamLemmas.{passes_in_front}
 use Rattle.kv_base.proofs.cursor.Cursor.take.Goals as goal

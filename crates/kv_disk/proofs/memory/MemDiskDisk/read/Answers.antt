@@ -1,12 +1,12 @@
 -- One call more, which changes nothing.
-use Rattle.kv_disk.proofs.TapeLemmas.{idle-seen, idle-crash, keeps-past}
+use Rattle.kv_disk.proofs.RecordedDiskLemmas.{idle-seen, idle-crash, keeps-past}
 use Rattle.kv_disk.proofs.memory.MemDiskDisk.read.Goals as goal
 
 pub returns-in_err-make-clause-seen : goal.returns-in_err-make-clause-seen
-returns-in_err-make-clause-seen c _ = idle-seen _ _ _ c.in_err-make.ensures.kept c.make.ensures.tape
+returns-in_err-make-clause-seen c _ = idle-seen _ _ _ c.in_err-make.ensures.kept c.make.ensures.recorded
 
 pub returns-clause-crash : goal.returns-clause-crash
-returns-clause-crash c = idle-crash _ _ _ c.in_ok-make.ensures.kept c.make.ensures.tape
+returns-clause-crash c = idle-crash _ _ _ c.in_ok-make.ensures.kept c.make.ensures.recorded
 
 pub returns-clause-past : goal.returns-clause-past
-returns-clause-past c = keeps-past _ _ _ _ c.in_ok-make.ensures.kept c.make.ensures.tape
+returns-clause-past c = keeps-past _ _ _ _ c.in_ok-make.ensures.kept c.make.ensures.recorded

@@ -3,7 +3,7 @@ use Rattle.std.proofs.Common.{◌≡◌, ℕ, ◌+◌, Some, length, inr, sym, �
 use Rattle.std.proofs.lemmas.List.{length_push}
 use Rattle.kv_disk.specs.Plain.{place_of}
 use Rattle.kv_disk.proofs.PlainLemmas.{content-set, content-push, in_range-push, apart-push}
-use Rattle.kv_disk.proofs.PlainLemmas.{above-push}
+use Rattle.kv_disk.proofs.PlainLemmas.{above-push, last-push}
 use Rattle.kv_disk.proofs.plain.PlainDiskDisk.write.Goals as goal
 
 pub index_mut-requires : goal.index_mut-requires
@@ -60,6 +60,9 @@ invariant_of-self-2 c =
       above = rw c.max.ensures (above-push old new count c.args.file c.args.page
           c.self.inside.lengths c.put_new.ensures.placed (omega (arith, c.requires.file))
           c.self.invariant.above);
+      last = rw c.max.ensures (last-push old new count c.args.file c.args.page
+          c.self.inside.lengths c.put_new.ensures.placed (omega (arith, c.requires.file))
+          c.self.invariant.last);
     }
 
 pub returns-clause-written : goal.returns-clause-written

@@ -1,4 +1,4 @@
-use Rattle.std.proofs.Common.{◌∙◌, arith}
+use Rattle.std.proofs.Common.{◌∙◌}
 use Rattle.kv_serve.proofs.SessionLemmas.{Arrives-trans, StaysDecided-more}
 use Rattle.kv_serve.proofs.session.Session.fill.Goals as goal
 

@@ -1,4 +1,4 @@
-use Rattle.std.proofs.Common.{◌≡◌, ◌+◌, ◌-◌, ◌^◌, ◌≤◌, cond}
+use Rattle.std.proofs.Common.{◌≡◌, ◌+◌, ◌-◌, ◌^◌, cond}
 use Rattle.kv_serve.specs.Session.{Arrives, StaysDecided}
 use Rattle.kv_serve.proofs.session.Session.fill.Given as goal
 

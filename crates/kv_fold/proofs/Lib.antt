@@ -1,0 +1,10 @@
+pub mod OrderLemmas
+pub mod BagLemmas
+pub mod KindLemmas
+pub mod PrefixLemmas
+pub mod UnionLemmas
+pub mod SumLemmas
+pub mod FirstLemmas
+pub mod PlaceLemmas
+pub mod ResultLemmas
+pub mod ListLemmas

@@ -1,0 +1,12 @@
+use Rattle.std.proofs.Common.{refl}
+use Rattle.kv_fold.proofs.KindLemmas.{other_kind}
+use Rattle.kv_fold.proofs.KindLemmas.{not_bytes}
+use Rattle.kv_fold.proofs.merging.merge_bytes.Goals as goal
+
+pub returns-in_default : goal.returns-in_default
+returns-in_default c = record {
+  sure = refl;
+  kept = λ _. refl;
+  ok = other_kind _ _ _
+      (not_bytes c.args.other c.in_default.not-ByteSum);
+}

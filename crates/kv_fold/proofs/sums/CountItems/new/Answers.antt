@@ -1,0 +1,6 @@
+use Rattle.kv_model.specs.Fold.{Counting}
+use Rattle.kv_fold.proofs.SumLemmas.{empty_state}
+use Rattle.kv_fold.proofs.sums.CountItems.new.Goals as goal
+
+pub returns : goal.returns
+returns c = empty_state Counting

@@ -1,0 +1,4 @@
+pub mod Ranges
+pub mod Rule
+pub mod Seats
+pub mod Steps

@@ -27,3 +27,6 @@ pub use listing::kept;
 pub use opening::{Opened, open_store};
 pub use surveying::survey;
 pub use value::read_value;
+
+#[cfg(test)]
+mod tests;

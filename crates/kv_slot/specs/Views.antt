@@ -1,11 +1,11 @@
 -- What the answers of the readers mean.
-use Rattle.std.specs.Prelude.{ℕ, length, if◌then◌else◌}
+use Rattle.std.specs.Prelude.{ℕ, List, true, take, drop, length, if◌then◌else◌}
 use Rattle.kv_slot.specs.declared.small.Slot as answer
 use Rattle.kv_slot.specs.declared.small.Slot.TheVariants as answers
 use Rattle.kv_slot.specs.declared.large.Large as large_answer
 use Rattle.kv_slot.specs.declared.large.Large.TheVariants as large_answers
 use Rattle.kv_model.specs.Layout.{all_classes, class_of}
-use Rattle.kv_model.specs.Slots.{Slot, Never, Item, Tombstone, Bad, Torn, is_class}
+use Rattle.kv_model.specs.Slots.{Slot, Never, Item, Tombstone, Bad, Torn, is_class, read_parts}
 
 -- what stands in the slot, by the answer
 abbrev pub what_stands : answer.Slot → Slot
@@ -31,6 +31,11 @@ what_stands_large (large_answers.Item stamp key value) = Item stamp key value
 what_stands_large (large_answers.Tombstone stamp link) = Tombstone stamp link
 what_stands_large (large_answers.Bad stamp) = Bad stamp
 what_stands_large (large_answers.Torn stamp) = Torn stamp
+
+-- what the first page of a slot of several pages says: of an item all of its key, and of its value
+-- what lies in this page
+abbrev pub read_front : ℕ → List ℕ → Slot
+read_front class page = read_parts all_classes class (take 16 page) (drop 16 page) true
 
 -- an item stands in the slot
 abbrev pub IsItem : Slot → Type 0

@@ -1,17 +1,17 @@
 ghost use Rattle.std.specs.Prelude.{◌≡◌, ◌+◌, ◌-◌, ◌*◌, ◌<◌, ◌≤◌, ◌∷◌, ◌++◌, ◌==◌, Some, length};
-ghost use Rattle.std.specs.Prelude.{take, drop, vec_len, IfOk, OnOk, OnErr};
+ghost use Rattle.std.specs.Prelude.{take, drop, vec_len, true, IfOk, OnOk, OnErr};
 ghost use Rattle.std.specs.Int.{w64, to_le_bytes};
 ghost use Rattle.std.specs.List.{flat_map, list_all};
 ghost use Rattle.kv_model.specs.Layout.{all_classes, class_of, pages_in_slot};
 ghost use Rattle.kv_model.specs.Padding.{padded};
 ghost use Rattle.kv_model.specs.SlotBytes.{item_header, large_page, large_pages};
 ghost use Rattle.kv_model.specs.Slots.{read_item, read_large, stamp_field};
-ghost use Rattle.kv_slot.specs.Views.{what_stands_large, IsItem};
+ghost use Rattle.kv_slot.specs.Views.{what_stands, what_stands_large, read_front, IsItem};
 
 use crate::class::class_of;
 use crate::header::{HEADER, ITEM, NEVER, TOMBSTONE, read_header};
 use crate::overwrite::{clear_from, put_at};
-use crate::small::fill_item;
+use crate::small::{Slot, fill_item};
 use crate::tombstone::{link_in, page_stamp};
 use byteorder::{ByteOrder, LittleEndian};
 use kv_base::{Bytes, NoMemory, ReservedList};
@@ -75,6 +75,52 @@ pub fn read_large(alloc: Global, pages: &[[u8; 4096]], class: u8) -> Result<Larg
     let count = pages_in_slot(class);
     let later = &pages[1..count];
     read_pages(alloc, &pages[0], later, class)
+}
+
+/// What the first page of a slot of this class, 8 to 11, says: of an item all of its key, and of its
+/// value the part that lies in this page. Whether the later pages have its stamp isn't looked at.
+pub fn read_first<'a>(page: &'a [u8; 4096], class: u8) -> Slot<'a>
+    requires class { (8 ≤ class) × (class ≤ 11) }
+    ensures { what_stands result ≡ read_front class page.now }
+{
+    let (header, content) = page.split_at(HEADER);
+    let header = read_header(header);
+    let stamp = header.stamp;
+    match header.kind {
+        NEVER => Slot::Never { stamp },
+        ITEM => {
+            let key_len = header.key_len as usize;
+            let value_len = header.last as usize;
+            front_item(class, stamp, key_len, value_len, content)
+        }
+        TOMBSTONE => Slot::Tombstone {
+            stamp,
+            link: link_in(header.last),
+        },
+        _ => Slot::Bad { stamp },
+    }
+}
+
+fn front_item<'a>(
+    class: u8,
+    stamp: u64,
+    key_len: usize,
+    value_len: usize,
+    content: &'a [u8],
+) -> Slot<'a>
+    requires { 255 ≤ length content.now }
+    ensures { what_stands result ≡ read_item all_classes class stamp key_len value_len content.now
+        true }
+{
+    if class_of(key_len, value_len) != Some(class) {
+        return Slot::Bad { stamp };
+    }
+    let (key, rest) = content.split_at(key_len);
+    Slot::Item {
+        stamp,
+        key,
+        value: front_of(rest, value_len),
+    }
 }
 
 /// The pages of one slot of this class, 8 to 11.

@@ -1,0 +1,23 @@
+-- The slots of the pages so far are seen.
+use Rattle.std.proofs.Common.{ℕ, ◌*◌, ◌≤◌, IsTrue}
+use Rattle.kv_model.specs.Layout.{slots_in_page}
+use Rattle.kv_recover.specs.Pass.{HasFound}
+use Rattle.kv_recover.specs.Placed.{HasCounts, ArePlaced, with_end}
+use Rattle.kv_disk.specs.Steps.{OnlyReads}
+use Rattle.kv_recover.proofs.find.find_in_pages.Given as goal
+
+abbrev pub invariant-loop-number : goal.invariant-loop-number
+invariant-loop-number g l = record {
+  reads : OnlyReads g.D.Disk l.initial.disk l.disk;
+  behind : l.seen.end ≤ l.number * slots_in_page l.class;
+  placed : (ends : ℕ → ℕ) → ArePlaced (g.I.Index.entries l.initial.items.index)
+      l.floor (with_end ends l.class 0)
+      → ArePlaced (g.I.Index.entries l.items.index) l.seen.floor
+      (with_end ends l.class l.seen.end);
+  counted : HasCounts (g.I.Index.entries l.items.index) l.items.counts;
+  found : IsTrue g.D.Disk.tells
+      → HasFound (g.D.Disk.seen l.initial.disk) l.share.worker l.share.workers l.class 0
+      (g.I.Index.entries l.initial.items.index) l.floor 0
+      → HasFound (g.D.Disk.seen l.initial.disk) l.share.worker l.share.workers l.class
+      (l.number * slots_in_page l.class) (g.I.Index.entries l.items.index) l.seen.floor l.seen.end;
+}

@@ -1,0 +1,69 @@
+-- One class more.
+use Rattle.std.proofs.Common.{◌≡◌, ℕ, get_or, get_or-set_other, length-set, refl, ◌∙◌, subst, arith}
+use Rattle.kv_recover.specs.Pass.{FindsBelow, FindsClass}
+use Rattle.kv_recover.proofs.SlabLemmas.{zero_at}
+use Rattle.kv_recover.proofs.PlacedLemmas.{placed-none, placed-begin, placed-end, ends-rest}
+use Rattle.kv_recover.proofs.FindLemmas.{finds-start, finds-next, ends-next}
+use Rattle.kv_disk.proofs.StepsLemmas.{reads-none, reads-then}
+use Rattle.kv_recover.proofs.find.find_small.Goals as goal
+
+pub loop-class-init : goal.loop-class-init
+loop-class-init g c = record {
+  reads = reads-none g.D.Disk c.args.disk.now;
+  size = refl;
+  ends = λ class. omega (arith, zero_at 12 class);
+  zero = zero_at 12 0;
+  rest = λ class from. zero_at 12 class;
+  placed = placed-none (g.I.Index.entries c.args.items.now.index) 0 _ c.requires.none;
+  counted = c.requires.counted;
+  found = λ tells. finds-start (g.D.Disk.seen c.args.disk.now) c.args.share.worker
+      c.args.share.workers (g.I.Index.entries c.args.items.now.index) _ c.requires.none;
+}
+
+pub returns-in_err-seen-clause-reads : goal.returns-in_err-seen-clause-reads
+returns-in_err-seen-clause-reads g c =
+    reads-then g.D.Disk _ _ _ c.loop-class.invariant.reads c.find_class.ensures.reads
+
+pub loop-class-preserved : goal.loop-class-preserved
+loop-class-preserved g c =
+    let size = c.loop-class.invariant.size in record {
+      reads = reads-then g.D.Disk _ _ _ c.loop-class.invariant.reads c.find_class.ensures.reads;
+      size = omega (
+        arith,
+        length-set {A = ℕ} c.loop-class.ends c.loop-class.class
+            c.in_ok-seen.seen.end,
+        size,
+      );
+      ends = ends-next c.loop-class.ends c.loop-class.class c.in_ok-seen.seen.end
+          (omega (arith, size)) c.in_ok-seen.ensures.end c.loop-class.invariant.ends;
+      zero = get_or-set_other c.loop-class.ends c.loop-class.class 0 c.in_ok-seen.seen.end 0
+          (λ same. omega arith) ∙ c.loop-class.invariant.zero;
+      rest = ends-rest c.loop-class.class c.in_ok-seen.seen.end c.loop-class.ends
+          c.loop-class.invariant.rest;
+      placed = placed-end (g.I.Index.entries c.find_class.new.items.index) c.in_ok-seen.seen.floor
+          c.loop-class.class c.in_ok-seen.seen.end c.loop-class.ends (omega (arith, size))
+          (c.in_ok-seen.ensures.placed (λ x. get_or c.loop-class.ends x 0)
+          (placed-begin (g.I.Index.entries c.loop-class.items.index) c.loop-class.floor
+          c.loop-class.class c.loop-class.ends (c.loop-class.invariant.rest c.loop-class.class
+          (omega arith)) c.loop-class.invariant.placed));
+      counted = c.in_ok-seen.ensures.counted;
+      found = λ tells. finds-next (g.D.Disk.seen c.args.disk.now) c.args.share.worker
+          c.args.share.workers c.loop-class.class _ _ c.loop-class.floor c.in_ok-seen.seen.floor
+          c.in_ok-seen.seen.end c.loop-class.ends (omega (arith, size))
+          (c.loop-class.invariant.found tells)
+          (subst (λ image. FindsClass image c.args.share.worker c.args.share.workers
+          c.loop-class.class (g.I.Index.entries c.loop-class.items.index)
+          (g.I.Index.entries c.find_class.new.items.index) c.loop-class.floor c.in_ok-seen.seen.floor
+          c.in_ok-seen.seen.end) (c.loop-class.invariant.reads.seen tells)
+          (c.in_ok-seen.ensures.found tells));
+    }
+
+pub returns-clause-found : goal.returns-clause-found
+returns-clause-found g c = λ tells.
+    let last : c.loop-class.class ≡ 8 = omega arith in
+    subst (λ n. FindsBelow (g.D.Disk.seen c.args.disk.now) c.args.share.worker
+    c.args.share.workers n (g.I.Index.entries c.loop-class.items.index) c.loop-class.floor
+    c.loop-class.ends) last (c.loop-class.invariant.found tells)
+
+pub returns-clause-rest : goal.returns-clause-rest
+returns-clause-rest g c = λ class from. c.loop-class.invariant.rest class (omega arith)

@@ -1,0 +1,1 @@
+-- Of a whole slot the first page has the item.

@@ -1,0 +1,16 @@
+pub mod SoFar
+pub mod Found
+pub mod Placed
+pub mod Pass
+pub mod Large
+pub mod Freed
+pub mod Free
+pub mod FreeLarge
+pub mod Lists
+pub mod Opened
+pub mod HeadCheck
+pub mod Causes
+pub mod Listed
+pub mod Store
+pub mod Kinds
+pub mod Survey

@@ -1,0 +1,15 @@
+pub mod Given
+pub mod Rounds
+pub mod Images
+pub mod Pages
+pub mod Fault
+pub mod Moves
+pub mod Rooms
+pub mod Assigned
+pub mod Settled
+pub mod Memory
+pub mod Floor
+pub mod Counts
+pub mod Plans
+pub mod View
+pub mod Large

@@ -1,0 +1,181 @@
+ghost use Rattle.std.specs.Prelude.{◌≡◌, ℕ, ◌+◌, ◌*◌, ◌^◌, ◌<◌, ◌≤◌, List, Option, Some, OnOk};
+ghost use Rattle.std.specs.Prelude.{IfOk, IfErr, IfSome};
+ghost use Rattle.std.specs.Prelude.{IsTrue, length};
+ghost use Rattle.std.specs.Option.{ForSome};
+ghost use Rattle.std.specs.List.{slice_get};
+ghost use Rattle.kv_model.specs.Layout.{all_classes};
+ghost use Rattle.kv_model.specs.Reading.{slot_at};
+ghost use Rattle.kv_slab.specs.declared.change.Change.{Change as Changed};
+ghost use Rattle.kv_slab.specs.declared.moves.Move.{Move as Moved};
+ghost use Rattle.kv_slab.specs.Floor.{HasFloorUpTo};
+ghost use Rattle.kv_slab.specs.Images.{StillLater};
+ghost use Rattle.kv_slab.specs.Moves.{IsSlabPlace, IsPair, CanHoldAt, to_of, IsWritten, IsVacated};
+ghost use Rattle.kv_slab.specs.Moves.{FirstSoFar, SecondSoFar, TargetsApart, LeftApart, StillFirst};
+ghost use Rattle.kv_slab.specs.Moves.{StillSecond, StillBeside, AreWhole, IsWhole, AreUpTo};
+ghost use Rattle.kv_slab.specs.Moves.{StampsUpTo};
+ghost use Rattle.kv_slab.specs.Pages.{over, ArePages};
+ghost use Rattle.kv_disk.specs.Steps.{ReadsAtMost};
+ghost use Rattle.kv_slab.specs.Fault.{HasStepCause};
+
+use crate::change::Change;
+use crate::edits::{write_item, write_tombstone};
+use crate::fault::StepFault;
+use crate::moves::Move;
+use crate::page::Page;
+use kv_base::Place;
+use kv_cache::Cached;
+use kv_disk::Disk;
+use std::alloc::Global;
+
+/// The new item of one change, if it has one.
+fn first_one<D: Disk>(
+    alloc: Global,
+    disk: &mut Cached<D>,
+    pages: &mut Vec<Page>,
+    change: &Change,
+    to: Option<Place>,
+) -> Result<(), StepFault>
+    requires hold { CanHoldAt change.now to }
+    requires pages { ArePages pages.old.items }
+    ensures reads { ReadsAtMost ⟦<D as Disk>⟧ 1 disk.old.disk disk.new.disk }
+    ensures written { IsTrue D.tells → OnOk result (IsWritten change.now (to_of to change.now.value)
+        (slot_at all_classes (over (D.seen disk.old.disk) pages.old.items))
+        (slot_at all_classes (over (D.seen disk.old.disk) pages.new.items))) }
+    ensures still { IsTrue D.tells → OnOk result (StillBeside to
+        (over (D.seen disk.old.disk) pages.old.items) (over (D.seen disk.old.disk)
+        pages.new.items)) }
+    ensures whole { IsTrue D.tells → OnOk result (IsWhole change.now (to_of to change.now.value)
+        (over (D.seen disk.old.disk) pages.new.items)) }
+    ensures floor { IsTrue D.tells → OnOk result ((bound : ℕ) → change.now.stamp ≤ bound
+        → HasFloorUpTo bound (over (D.seen disk.old.disk) pages.old.items)
+        → HasFloorUpTo bound (over (D.seen disk.old.disk) pages.new.items)) }
+    ensures pages { ArePages pages.new.items }
+    ensures count { length pages.new.items ≤ length pages.old.items + 16 }
+    ensures cause { IfErr result (HasStepCause (D.faults disk.old.disk) (D.faults disk.new.disk)) }
+{
+    match to {
+        Some(place) => match &change.value {
+            Some(value) => write_item(
+                alloc,
+                disk,
+                pages,
+                place,
+                change.stamp,
+                change.key.as_slice(),
+                value.as_slice(),
+            ),
+            None => Ok(()),
+        },
+        None => Ok(()),
+    }
+}
+
+/// The pages of the first round: each new item at its place.
+pub fn plan_first<D: Disk>(
+    alloc: Global,
+    disk: &mut Cached<D>,
+    changes: &[Change],
+    moves: &[Move],
+) -> Result<Vec<Page>, StepFault>
+    requires count { length moves.now ≡ length changes.now }
+    requires hold { (i : ℕ) (c : Changed) (m : Moved) → IsPair changes.now moves.now i c m
+        → CanHoldAt c m.to }
+    ensures reads { ReadsAtMost ⟦<D as Disk>⟧ (length changes.now) disk.old.disk disk.new.disk }
+    ensures first { IsTrue D.tells → TargetsApart moves.now → IfOk result (λ pages.
+        FirstSoFar changes.now moves.now (length changes.now)
+        (slot_at all_classes (D.seen disk.old.disk))
+        (slot_at all_classes (over (D.seen disk.old.disk) pages.items))) }
+    ensures still { IsTrue D.tells → IfOk result (λ pages.
+        StillFirst moves.now (D.seen disk.old.disk) (over (D.seen disk.old.disk) pages.items)) }
+    ensures whole { IsTrue D.tells → TargetsApart moves.now → IfOk result (λ pages.
+        AreWhole changes.now moves.now (length changes.now)
+        (over (D.seen disk.old.disk) pages.items)) }
+    ensures floor { IsTrue D.tells → IfOk result (λ pages. (bound : ℕ)
+        → AreUpTo bound changes.now → HasFloorUpTo bound (D.seen disk.old.disk)
+        → HasFloorUpTo bound (over (D.seen disk.old.disk) pages.items)) }
+    ensures pages { IfOk result (λ pages. ArePages pages.items) }
+    ensures count { IfOk result (λ pages. length pages.items ≤ 16 * length changes.now) }
+    ensures cause { IfErr result (HasStepCause (D.faults disk.old.disk) (D.faults disk.new.disk)) }
+{
+    let mut pages = Vec::new(alloc);
+    for i in 0..changes.len() {
+        first_one(alloc, disk, &mut pages, &changes[i], moves[i].to)?;
+    }
+    Ok(pages)
+}
+
+/// The tombstone of one place that is left, if one is.
+fn second_one<D: Disk>(
+    disk: &mut Cached<D>,
+    pages: &mut Vec<Page>,
+    first: &[Page],
+    stamp: u64,
+    left: Option<Place>,
+    link: Option<u32>,
+) -> Result<(), StepFault>
+    requires place { IfSome left (λ place. IsSlabPlace place) }
+    requires link { ForSome link (λ other. other < 2 ^ 24) }
+    requires pages { ArePages pages.old.items }
+    requires first { ArePages first.now }
+    ensures reads { ReadsAtMost ⟦<D as Disk>⟧ 1 disk.old.disk disk.new.disk }
+    ensures vacated { IsTrue D.tells → OnOk result (IsVacated stamp left link
+        (slot_at all_classes (over (over (D.seen disk.old.disk) first.now) pages.old.items))
+        (slot_at all_classes (over (over (D.seen disk.old.disk) first.now) pages.new.items))) }
+    ensures still { IsTrue D.tells → OnOk result (StillBeside left
+        (over (over (D.seen disk.old.disk) first.now) pages.old.items)
+        (over (over (D.seen disk.old.disk) first.now) pages.new.items)) }
+    ensures later { IsTrue D.tells → OnOk result (StillLater
+        (over (over (D.seen disk.old.disk) first.now) pages.old.items)
+        (over (over (D.seen disk.old.disk) first.now) pages.new.items)) }
+    ensures floor { IsTrue D.tells → OnOk result ((bound : ℕ) → stamp ≤ bound
+        → HasFloorUpTo bound (over (over (D.seen disk.old.disk) first.now) pages.old.items)
+        → HasFloorUpTo bound (over (over (D.seen disk.old.disk) first.now) pages.new.items)) }
+    ensures pages { ArePages pages.new.items }
+    ensures count { length pages.new.items ≤ length pages.old.items + 1 }
+    ensures cause { IfErr result (HasStepCause (D.faults disk.old.disk) (D.faults disk.new.disk)) }
+{
+    match left {
+        Some(place) => write_tombstone(disk, pages, first, place, stamp, link),
+        None => Ok(()),
+    }
+}
+
+/// The pages of the second round: a tombstone at each place that is left.
+pub fn plan_second<D: Disk>(
+    alloc: Global,
+    disk: &mut Cached<D>,
+    first: &[Page],
+    moves: &[Move],
+    links: &[Option<u32>],
+) -> Result<Vec<Page>, StepFault>
+    requires count { length links.now ≡ length moves.now }
+    requires places { (i : ℕ) (m : Moved) → slice_get moves.now i ≡ Some m
+        → IfSome m.left (λ place. IsSlabPlace place) }
+    requires small { (i : ℕ) (link : Option ℕ) → slice_get links.now i ≡ Some link
+        → ForSome link (λ other. other < 2 ^ 24) }
+    requires first { ArePages first.now }
+    ensures reads { ReadsAtMost ⟦<D as Disk>⟧ (length moves.now) disk.old.disk disk.new.disk }
+    ensures second { IsTrue D.tells → LeftApart moves.now → IfOk result (λ pages.
+        SecondSoFar moves.now links.now (length moves.now)
+        (slot_at all_classes (over (D.seen disk.old.disk) first.now))
+        (slot_at all_classes (over (over (D.seen disk.old.disk) first.now) pages.items))) }
+    ensures still { IsTrue D.tells → IfOk result (λ pages.
+        StillSecond moves.now (over (D.seen disk.old.disk) first.now)
+        (over (over (D.seen disk.old.disk) first.now) pages.items)) }
+    ensures later { IsTrue D.tells → IfOk result (λ pages. StillLater
+        (over (D.seen disk.old.disk) first.now)
+        (over (over (D.seen disk.old.disk) first.now) pages.items)) }
+    ensures floor { IsTrue D.tells → IfOk result (λ pages. (bound : ℕ)
+        → StampsUpTo bound moves.now → HasFloorUpTo bound (over (D.seen disk.old.disk) first.now)
+        → HasFloorUpTo bound (over (over (D.seen disk.old.disk) first.now) pages.items)) }
+    ensures pages { IfOk result (λ pages. ArePages pages.items) }
+    ensures count { IfOk result (λ pages. length pages.items ≤ length moves.now) }
+    ensures cause { IfErr result (HasStepCause (D.faults disk.old.disk) (D.faults disk.new.disk)) }
+{
+    let mut pages = Vec::new(alloc);
+    for i in 0..moves.len() {
+        let step = &moves[i];
+        second_one(disk, &mut pages, first, step.stamp, step.left, links[i])?;
+    }
+    Ok(pages)
+}

@@ -1,6 +1,7 @@
 pub mod Calls
 pub mod Fault
 pub mod Reserved
+pub mod ReservedLends
 pub mod Partition
 pub mod Limits
 pub mod Stream

@@ -29,6 +29,9 @@ impl<T> Model for ReservedList<T> {
 }
 
 impl<T> ReservedList<T> {
+    ghost use Rattle.std.specs.Borrow.{sem};
+    ghost use Rattle.kv_base.specs.ReservedLends.{lends_items};
+
     /// An empty list with room for `n` items. The one error is want of memory; none is wanted for
     /// no item.
     pub fn with_room(alloc: Global, n: usize) -> Result<ReservedList<T>, NoMemory>
@@ -76,5 +79,13 @@ impl<T> ReservedList<T> {
         ensures { result.now ≡ self.now.items }
     {
         self.items.as_slice()
+    }
+
+    /// The items in order, for writing.
+    pub fn as_mut_slice(&mut self) -> &mut [T]
+        ensures* writes_back { sem 𝓛 (lends_items T.row self.entry result) }
+        ensures items { result.now ≡ self.old.items }
+    {
+        self.items.as_mut_slice()
     }
 }

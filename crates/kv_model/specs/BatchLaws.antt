@@ -1,5 +1,5 @@
 -- What the answers to a batch and its net changes have, whatever the batch is.
-use Rattle.std.specs.Prelude.{◌≡◌, ◌≢◌, ℕ, ◌+◌, ◌≤◌, ◌<◌, ◌^◌, List, [], ◌∷◌, ◌++◌, length, Bool}
+use Rattle.std.specs.Prelude.{◌≡◌, ◌≢◌, ℕ, ◌+◌, ◌-◌, ◌≤◌, ◌<◌, ◌^◌, List, [], ◌∷◌, ◌++◌, length, Bool}
 use Rattle.std.specs.Prelude.{MatchOption, ⊤, Option, ◌⊎◌, map}
 use Rattle.std.specs.List.{AllByRecursion}
 use Rattle.kv_base.specs.declared.request.Request.{Request}
@@ -10,7 +10,7 @@ use Rattle.kv_model.specs.Layout.{Layout}
 use Rattle.kv_model.specs.Pairs.{Pair, writes, stamp_of}
 use Rattle.kv_model.specs.Agreement.{AgreesWithMap, told_of}
 use Rattle.kv_model.specs.Batch.{Start, IsTask, answers, accepted_writes, net, value_after}
-use Rattle.kv_model.specs.Items.{BeginsAt, SameValue, HasChanges, class_with}
+use Rattle.kv_model.specs.Items.{FollowsHistory, SameValue, HasChanges}
 
 -- each request with its reply
 abbrev pub pairs_of : List Request → List Reply → List Pair
@@ -47,7 +47,7 @@ NetHasOneWritePerKey = (start : Start) (base : ℕ) (requests : List Request)
 -- behind the net changes a key has what it has behind all accepted writes
 abbrev pub NetReadsAsAll : Type 0
 NetReadsAsAll = (told : Bool) (history : List Write) (base : ℕ) (start : Start)
-    (requests : List Request) (stamp : ℕ) (key : List ℕ) → BeginsAt told history base start
+    (requests : List Request) (stamp : ℕ) (key : List ℕ) → FollowsHistory told history (base - 1) start
     → AllByRecursion (λ write. write.stamp < base) history → base + length requests ≤ stamp + 1
     → value_at (history ++ net start (accepted_writes start [] base requests)) stamp key
     ≡ value_at (history ++ accepted_writes start [] base requests) stamp key
@@ -55,7 +55,7 @@ NetReadsAsAll = (told : Bool) (history : List Write) (base : ℕ) (start : Start
 -- behind the acknowledged writes a key has what it has behind all accepted ones
 abbrev pub AcknowledgedReadAsAll : Type 0
 AcknowledgedReadAsAll = (told : Bool) (history : List Write) (base : ℕ) (start : Start)
-    (requests : List Request) (stamp : ℕ) (key : List ℕ) → BeginsAt told history base start
+    (requests : List Request) (stamp : ℕ) (key : List ℕ) → FollowsHistory told history (base - 1) start
     → AllByRecursion (λ write. write.stamp < base) history → base + length requests ≤ stamp + 1
     → value_at (history ++ writes (pairs_of requests (answers start [] base requests))) stamp key
     ≡ value_at (history ++ accepted_writes start [] base requests) stamp key
@@ -65,7 +65,7 @@ abbrev pub AnswersAgree : Type 0
 AnswersAgree = (told : Bool) (layout : Layout) (before : List Write) (floor : ℕ) (pairs : List Pair)
     (base : ℕ) (start : Start) (requests : List Request)
     → AgreesWithMap told layout before floor pairs → start.layout ≡ layout
-    → BeginsAt told (before ++ writes pairs) base start → floor < base
+    → FollowsHistory told (before ++ writes pairs) (base - 1) start → floor < base
     → AllByRecursion (λ write. write.stamp < base) before
     → AllByRecursion (λ pair. MatchOption (stamp_of pair.reply) ⊤ (λ stamp. stamp < base)) pairs
     → base + length requests ≤ 2 ^ 62
@@ -73,19 +73,12 @@ AnswersAgree = (told : Bool) (layout : Layout) (before : List Write) (floor : �
     → AgreesWithMap told layout before floor (pairs ++ pairs_of requests
     (answers start [] base requests))
 
--- the store has what the history has at the stamp, so that the next batch can begin there
-pub record FollowsHistory (told : Bool) (history : List Write) (stamp : ℕ)
-    (store : Start) : Type 0 where
-  pub value : (key : List ℕ) → SameValue told (store.value key) (value_at history stamp key)
-  pub class : (key : List ℕ) → store.class key
-      ≡ class_with store.layout key (value_at history stamp key)
-
 -- a store that has the net changes follows the history with the acknowledged writes
 abbrev pub StoreFollowsHistory : Type 0
 StoreFollowsHistory = (told : Bool) (history : List Write) (base : ℕ) (start after : Start)
-    (requests : List Request) (stamp : ℕ) → BeginsAt told history base start
+    (requests : List Request) (stamp : ℕ) → FollowsHistory told history (base - 1) start
     → AllByRecursion (λ write. write.stamp < base) history → base + length requests ≤ stamp + 1
-    → HasChanges start after (net start (accepted_writes start [] base requests))
+    → HasChanges told start after (net start (accepted_writes start [] base requests))
     → FollowsHistory told (history ++ writes (pairs_of requests (answers start [] base requests)))
     stamp after
 
@@ -94,7 +87,7 @@ StoreFollowsHistory = (told : Bool) (history : List Write) (base : ℕ) (start a
 abbrev pub OldOrNewIsPrefix : Type 0
 OldOrNewIsPrefix = (told : Bool) (history : List Write) (base : ℕ) (start : Start)
     (requests : List Request) (key : List ℕ) (value : Option (List ℕ))
-    → BeginsAt told history base start → 1 ≤ base
+    → FollowsHistory told history (base - 1) start → 1 ≤ base
     → AllByRecursion (λ write. write.stamp < base) history
     → (value ≡ start.value key) ⊎ (value ≡ value_after start
     (net start (accepted_writes start [] base requests)) key)
@@ -108,7 +101,7 @@ abbrev pub ToldAnswersAgree : Type 0
 ToldAnswersAgree = (told : Bool) (layout : Layout) (before : List Write) (floor : ℕ)
     (pairs : List Pair) (base : ℕ) (start : Start) (requests : List Request) (replies : List Reply)
     → AgreesWithMap told layout before floor pairs → start.layout ≡ layout
-    → BeginsAt told (before ++ writes pairs) base start → floor < base
+    → FollowsHistory told (before ++ writes pairs) (base - 1) start → floor < base
     → AllByRecursion (λ write. write.stamp < base) before
     → AllByRecursion (λ pair. MatchOption (stamp_of pair.reply) ⊤ (λ stamp. stamp < base)) pairs
     → base + length requests ≤ 2 ^ 62

@@ -62,11 +62,16 @@ SameValue told None (Some kept) = ⊥
 SameValue told (Some value) None = ⊥
 SameValue told (Some value) (Some kept) = IsTrue told → value ≡ kept
 
+-- the store has what the history has at the stamp
+pub record FollowsHistory (told : Bool) (history : List Write) (stamp : ℕ)
+    (store : Start) : Type 0 where
+  pub value : (key : List ℕ) → SameValue told (store.value key) (value_at history stamp key)
+  pub class : IsTrue told → (key : List ℕ) → store.class key
+      ≡ class_with store.layout key (value_at history stamp key)
+
 -- what the batch finds is what the history has just below the batch's first stamp
 pub record BeginsAt (told : Bool) (history : List Write) (base : ℕ) (start : Start) : Type 0 where
-  pub value : (key : List ℕ) → SameValue told (start.value key) (value_at history (base - 1) key)
-  pub class : (key : List ℕ) → start.class key ≡ class_with start.layout key
-      (value_at history (base - 1) key)
+  pub follows : FollowsHistory told history (base - 1) start
   pub items : (class : ℕ) → HasItems start.layout history (base - 1) class (start.items class)
 
 -- the class of what was written, or else the one that was there
@@ -79,10 +84,10 @@ abbrev pub class_after : Start → List Write → List ℕ → Option ℕ
 class_after start writes key = class_or start.layout (last_write writes key) (start.class key)
 
 -- these changes are all that changed
-pub record HasChanges (start after : Start) (changes : List Write) : Type 0 where
+pub record HasChanges (told : Bool) (start after : Start) (changes : List Write) : Type 0 where
   pub layout : after.layout ≡ start.layout
   pub limit : after.limit ≡ start.limit
-  pub value : (key : List ℕ) → after.value key ≡ value_after start changes key
+  pub value : (key : List ℕ) → SameValue told (after.value key) (value_after start changes key)
   pub class : (key : List ℕ) → after.class key ≡ class_after start changes key
 
 -- a batch was answered from its first stamp on, and its net changes came behind the writes

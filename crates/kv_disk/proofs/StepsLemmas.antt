@@ -1,5 +1,5 @@
 -- Calls that only read, one behind the other.
-use Rattle.std.proofs.Common.{◌≡◌, ℕ, ◌+◌, ◌≤◌, IsTrue, Result, refl, ◌∙◌, arith}
+use Rattle.std.proofs.Common.{ℕ, ◌+◌, ◌≤◌, Result, refl, ◌∙◌, arith}
 use Rattle.kv_base.specs.Image.{Image}
 use Rattle.kv_base.specs.Crash.{Choices, MayLeave, LeavesOnly}
 use Rattle.kv_base.proofs.CrashLemmas.{started, stays, joins, weaker, same-trans, left-before}

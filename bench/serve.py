@@ -3,11 +3,14 @@
 
     python3 bench/serve.py [COUNT [FOLDER]]
 
-Four runs each, interleaved: COUNT puts of 1,000 bytes and then their gets in another order, from a file; and COUNT / 10
-puts through a pipe, each sent when the reply to the one before it is there. It prints requests a second, the best and
-the median of the runs, and the peak memory. FOLDER is where the files go, by default one below /tmp.
+For values of 1,000 and of 100 bytes, and for groups of 64 and of 1 request: COUNT new items (COUNT / 10 in groups of 1),
+as many updates in another order, as many gets, and updates and gets in turn, each from a file, in one run; three runs
+each, interleaved. It prints requests a second, the best run and the median, and the peak memory for each item; then how
+long opening the store takes, beside reading its files page by page and in pieces of 1 MB. FOLDER is where the files go,
+by default one below /tmp.
 """
 
+import glob
 import math
 import os
 import shutil
@@ -19,121 +22,134 @@ import tempfile
 import time
 
 HERE = os.path.dirname(os.path.abspath(__file__))
-KVELL = os.path.join(HERE, "..", "crates", "kvell", "out", "kvell")
-ROUNDS = 4
-VALUE = bytes(range(250)) * 4
+KVELL = os.environ.get("KVELL") or os.path.join(HERE, "..", "crates", "kvell", "out", "kvell")
+ROUNDS = 3
+PHASES = ("new items", "updates", "gets", "half and half")
+FLUSH = struct.pack("<IB", 1, 5)
+
+
+def frame(content: bytes) -> bytes:
+    return struct.pack("<I", len(content)) + content
 
 
 def key_of(number: int) -> bytes:
     return b"%010d" % number
 
 
-def put(number: int) -> bytes:
-    content = b"\x01\x0a" + key_of(number) + VALUE
-    return struct.pack("<I", len(content)) + content
+def put(number: int, value: bytes) -> bytes:
+    return frame(b"\x01\x0a" + key_of(number) + value)
 
 
 def get(number: int) -> bytes:
-    content = b"\x02" + key_of(number)
-    return struct.pack("<I", len(content)) + content
+    return frame(b"\x02" + key_of(number))
 
 
-def write_input(path: str, count: int) -> None:
-    """The puts in order, then the gets in steps of a number that has no divisor in common with the count."""
+def write_input(path: str, count: int, size: int, group: int) -> list[int]:
+    """Writes the requests of all phases, and answers how many bytes of replies each phase has."""
+    value = (bytes(range(250)) * 4)[:size]
     step = next(n for n in range(count * 5 // 8, 2 * count + 2) if math.gcd(n, count) == 1)
     with open(path, "wb") as file:
-        for number in range(count):
-            file.write(put(number))
-        for number in range(count):
-            file.write(get(number * step % count))
+        for phase in range(len(PHASES)):
+            for number in range(count):
+                other = number * step % count
+                if phase == 0:
+                    request = put(number, value)
+                elif phase == 1 or phase == 3 and number % 2 == 0:
+                    request = put(other, value)
+                else:
+                    request = get(other)
+                file.write(request)
+                if group == 1 or number == count - 1:
+                    file.write(FLUSH)
+    stored, found = 13, 13 + size
+    return [count * stored, count * stored, count * found, count // 2 * found + (count + 1) // 2 * stored]
 
 
-class Watch:
-    """Counts the bytes of the replies as they come: when those of the puts and when all were there."""
-
-    def __init__(self, count: int):
-        self.put_bytes, self.all_bytes = 13 * count, 13 * count + (13 + len(VALUE)) * count
-
-    def follow(self, process: subprocess.Popen) -> tuple[float, float, int]:
-        begin, seen, puts, peak = time.perf_counter(), 0, 0.0, 0
-        while piece := os.read(process.stdout.fileno(), 1 << 16):
-            seen += len(piece)
-            if not puts and seen >= self.put_bytes:
-                puts = time.perf_counter() - begin
-            if not peak and 2 * seen >= self.all_bytes:
+def follow(process: subprocess.Popen, sizes: list[int]) -> tuple[list[float], int]:
+    """The seconds of each phase, by the bytes of its replies, and the peak memory in KB."""
+    begin, seen, seconds, peak = time.perf_counter(), 0, [], 0
+    ends = [sum(sizes[: n + 1]) for n in range(len(sizes))]
+    while piece := os.read(process.stdout.fileno(), 1 << 20):
+        seen += len(piece)
+        while len(seconds) < len(ends) and seen >= ends[len(seconds)]:
+            now = time.perf_counter()
+            seconds.append(now - begin)
+            begin = now
+            if len(seconds) == len(ends) - 1:
                 peak = peak_kilobytes(process.pid)
-        if seen != self.all_bytes:
-            sys.exit(f"{seen} bytes of replies in place of {self.all_bytes}")
-        return puts, time.perf_counter() - begin - puts, peak
+    if seen != ends[-1]:
+        sys.exit(f"{seen} bytes of replies in place of {ends[-1]}")
+    if process.wait() != 0:
+        sys.exit(f"it ended with the status {process.returncode}")
+    return seconds, peak
 
 
 def peak_kilobytes(pid: int) -> int:
-    """The most memory that the program had so far; all keys are there when half of the bytes are."""
     with open(f"/proc/{pid}/status", encoding="ascii") as file:
         return next(int(line.split()[1]) for line in file if line.startswith("VmHWM"))
 
 
-def wait_for_end(process: subprocess.Popen) -> None:
-    if process.wait() != 0:
-        sys.exit(f"it ended with the status {process.returncode}")
-
-
-def from_file(words: list[str], path: str, count: int) -> tuple[float, float, int]:
+def run(words: list[str], path: str, sizes: list[int]) -> tuple[list[float], int]:
     with open(path, "rb") as file:
-        process = subprocess.Popen(words, stdin=file, stdout=subprocess.PIPE)
-        puts, gets, peak = Watch(count).follow(process)
-    wait_for_end(process)
-    return count / puts, count / gets, peak
+        return follow(subprocess.Popen(words, stdin=file, stdout=subprocess.PIPE), sizes)
 
 
-def one_by_one(words: list[str], count: int) -> float:
-    process = subprocess.Popen(words, stdin=subprocess.PIPE, stdout=subprocess.PIPE, bufsize=0)
-    frames = [put(number) for number in range(count)]
+def seconds_of(words: list[str]) -> float:
     begin = time.perf_counter()
-    for frame in frames:
-        os.write(process.stdin.fileno(), frame)
-        os.read(process.stdout.fileno(), 13)
-    seconds = time.perf_counter() - begin
-    process.stdin.close()
-    wait_for_end(process)
-    return count / seconds
+    subprocess.run(words, stdin=subprocess.DEVNULL, stdout=subprocess.DEVNULL, check=True)
+    return time.perf_counter() - begin
 
 
-def main() -> None:
-    count = int(sys.argv[1]) if len(sys.argv) > 1 else 100_000
-    folder = tempfile.mkdtemp(dir=sys.argv[2] if len(sys.argv) > 2 else None)
-    try:
-        loop, path = os.path.join(folder, "loop"), os.path.join(folder, "requests")
-        subprocess.run(["gcc", "-O2", "-o", loop, os.path.join(HERE, "loop.c")], check=True)
-        write_input(path, count)
-        figures: dict[tuple[str, str], list[float]] = {}
-        peaks: dict[str, int] = {}
-        for _ in range(ROUNDS):
-            for name in ("kvell", "loop"):
-                store = os.path.join(folder, "store")
-                words = [KVELL, "serve", store, "1", "-", "-"] if name == "kvell" else [loop, store]
-                puts, gets, peaks[name] = from_file(words, path, count)
-                figures.setdefault((name, "puts"), []).append(puts)
-                figures.setdefault((name, "gets"), []).append(gets)
-                remove(store)
-                figures.setdefault((name, "puts that wait"), []).append(one_by_one(words, count // 10))
-                remove(store)
-        print(f"{'':16}{'kvell':>20}{'loop':>20}{'ratio':>8}")
-        for what in ("puts", "gets", "puts that wait"):
-            kvell, loop_figures = figures["kvell", what], figures["loop", what]
-            ratio = statistics.median(kvell) / statistics.median(loop_figures)
-            print(f"{what:16}{shown(kvell):>20}{shown(loop_figures):>20}{ratio:8.2f}")
-        print(f"peak memory, KB {peaks['kvell']:>20}{peaks['loop']:>20}")
-    finally:
-        shutil.rmtree(folder)
+def remove(store: str) -> None:
+    if os.path.isdir(store):
+        shutil.rmtree(store)
+    elif os.path.exists(store):
+        os.remove(store)
 
 
 def shown(figures: list[float]) -> str:
     return f"{max(figures):,.0f} ({statistics.median(figures):,.0f})"
 
 
-def remove(store: str) -> None:
-    shutil.rmtree(store) if os.path.isdir(store) else os.remove(store)
+def measure(folder: str, loop: str, count: int, size: int, group: int) -> None:
+    path, store = os.path.join(folder, "requests"), os.path.join(folder, "store")
+    sizes = write_input(path, count, size, group)
+    figures: dict[tuple[str, int], list[float]] = {}
+    peak = opening = pages = pieces = 0.0
+    for _ in range(ROUNDS):
+        for name, words in (("loop", [loop, store]), ("kvell", [KVELL, "serve", store, "1", "-", "-"])):
+            remove(store)
+            seconds, memory = run(words, path, sizes)
+            for phase, second in enumerate(seconds):
+                figures.setdefault((name, phase), []).append(count / second)
+            if name == "kvell":
+                peak = memory
+    files = sorted(glob.glob(os.path.join(store, "0", "*")))
+    opening = min(seconds_of([KVELL, "serve", store, "1", "-", "-"]) for _ in range(ROUNDS))
+    pages = min(seconds_of([loop, *files, "--read", "4096"]) for _ in range(ROUNDS))
+    pieces = min(seconds_of([loop, *files, "--read", str(1 << 20)]) for _ in range(ROUNDS))
+    remove(store)
+    print(f"\n{count:,} items, values of {size:,} bytes, groups of {group}")
+    print(f"{'':16}{'kvell':>22}{'loop':>22}{'ratio':>8}")
+    for phase, what in enumerate(PHASES):
+        kvell, twin = figures["kvell", phase], figures["loop", phase]
+        ratio = statistics.median(kvell) / statistics.median(twin)
+        print(f"{what:16}{shown(kvell):>22}{shown(twin):>22}{ratio:8.2f}")
+    print(f"peak memory {peak / 1024:.1f} MB, {peak * 1024 / count:.0f} bytes an item")
+    print(f"opening {opening:.3f} s; reading page by page {pages:.3f} s, in pieces of 1 MB {pieces:.3f} s", flush=True)
+
+
+def main() -> None:
+    count = int(sys.argv[1]) if len(sys.argv) > 1 else 100_000
+    folder = tempfile.mkdtemp(dir=sys.argv[2] if len(sys.argv) > 2 else None)
+    try:
+        loop = os.path.join(folder, "loop")
+        subprocess.run(["gcc", "-O2", "-o", loop, os.path.join(HERE, "loop.c")], check=True)
+        for size in (1_000, 100):
+            for group in (64, 1):
+                measure(folder, loop, count if group == 64 else max(count // 10, 1), size, group)
+    finally:
+        shutil.rmtree(folder)
 
 
 if __name__ == "__main__":

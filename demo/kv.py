@@ -3,20 +3,22 @@
 
     python3 demo/kv.py DIR [FILE]
 
-makes a new store in the folder DIR, by starting `kvell serve DIR 1 - -`, and takes its commands from FILE, or from
-standard input. A line is a command, or empty, or a remark that begins with #:
+opens the store in the folder DIR, or makes a new one there, by starting `kvell serve DIR 1 - -`, and takes its
+commands from FILE, or from standard input. A line is a command, or empty, or a remark that begins with #:
 
     put KEY VALUE      gives KEY the value
     put KEY @FILE      gives KEY what stands in FILE (a value that begins with @ is written @@)
     get KEY            asks for the value of KEY
+    del KEY            takes the value of KEY away
 
-Words are quoted as in a shell: put 'a key' "two words". Commands are sent without waiting for replies, but for a
-terminal, where each prompt waits for the reply before it.
+Words are quoted as in a shell: put 'a key' "two words". The commands of FILE are sent without waiting for replies, in
+groups as large as kvell takes; behind each line of standard input goes a Flush, so that its reply comes at once, and at
+a terminal each prompt waits for it.
 
 The program is crates/kvell/out/kvell, as `rt run` leaves it, or what the variable KVELL names.
 
 Exit status: kvell's own (0 all is well, 1 the session ended early or a write is unsure, 2 kvell didn't take its words,
-3 the store can't be made, 4 no memory); where kvell's is 0, 2 for lines that are no commands or words that aren't DIR
+3 the store can't be opened, 4 no memory); where kvell's is 0, 2 for lines that are no commands or words that aren't DIR
 [FILE].
 """
 
@@ -60,10 +62,17 @@ def get_content(key: str) -> bytes:
     return b"\x02" + raw(key)
 
 
+def delete_content(key: str) -> bytes:
+    return b"\x03" + raw(key)
+
+
 COMMANDS = {
     "put": Command("put KEY VALUE", 2, put_content),
     "get": Command("get KEY", 1, get_content),
+    "del": Command("del KEY", 1, delete_content),
 }
+
+FLUSH = struct.pack("<IB", 1, 0x05)  # ends a group, whose replies are then written
 
 
 def raw(word: str) -> bytes:
@@ -119,20 +128,24 @@ REPLIES = {
     0x81: lambda body: f"stored at {stamp_of(body)}",
     0x82: lambda body: f"found at {stamp_of(body)}: {shown(body[8:])}",
     0x83: lambda body: f"missing at {stamp_of(body)}",
+    0x84: lambda body: f"removed at {stamp_of(body)}",
+    0x85: lambda body: f"absent at {stamp_of(body)}",
     0xE1: lambda body: "refused: a key has 1 to 255 bytes",
-    0xE2: lambda body: "refused: key and value have more than 4,080 bytes together",
-    0xE3: lambda body: f"refused: each slot of class {body[0]} is taken by another key",
+    0xE2: lambda body: "refused: key and value have more than 65,400 bytes together",
+    0xE3: lambda body: f"refused: each slot of class {body[0]} is taken",
     0xE4: lambda body: "refused: the store has no memory for it; nothing changed",
     0xE5: lambda body: "refused: the disk failed to read; nothing changed, and the store goes on",
-    0xE6: lambda body: f"unsure at {stamp_of(body)}: the disk failed, and the value may be on it or not",
-    0xE7: lambda body: "refused: the store is closed, since an earlier put is unsure",
+    0xE6: lambda body: f"unsure at {stamp_of(body)}: the disk failed, and the change may be on it or not",
+    0xE7: lambda body: "refused: the store is closed, since an earlier change is unsure; open it again",
+    0xE8: lambda body: f"refused: no stamp is left; the next would be {stamp_of(body)}",
     0xE9: lambda body: f"the bytes at {stamp_of(body)} are no request; nothing behind them was read",
 }
 
 STATUSES = {
-    1: "A put is unsure or bytes were no request, as a line above says; else the session's input or output failed.",
+    1: "A change is unsure or bytes were no request, as a line above says; else the session's input or output failed.",
     2: "kvell didn't take its words: DIR may not be empty, nor begin with - but where it is - alone.",
-    3: "The store can't be made: the folder above DIR isn't there, DIR has a store, or its disk failed.",
+    3: "The store can't be opened: the folder above DIR isn't there, DIR has files that are no store, a store of more "
+    "workers or one that another process has open, or its disk failed.",
     4: "There was no memory to begin with.",
 }
 
@@ -244,6 +257,8 @@ def run(session: Session, lines: Iterable[str], terminal: bool) -> int:
             continue
         if frame is None:
             continue
+        if session.lines is None:
+            frame += FLUSH
         if not session.send(line if len(line) <= 60 else line[:57] + "...", frame):
             break
         if session.lines is None and not session.flush():
@@ -278,10 +293,6 @@ def main(words: list[str]) -> int:
     if not os.access(program, os.X_OK):
         print("kvell isn't built: `cd crates/kvell && rt run` builds it.", file=sys.stderr)
         return 2
-    if os.path.exists(folder):
-        print(f"{folder} is there already: this version makes new stores alone. Name a folder that isn't there.",
-              file=sys.stderr)
-        return 3
     sys.stdin.reconfigure(errors="surrogateescape")
     sys.stdout.reconfigure(errors="backslashreplace")
     terminal = len(words) == 1 and sys.stdin.isatty()

@@ -57,6 +57,9 @@ class Demonstration(unittest.TestCase):
             ("get 'two words'", "get 'two words': found at 5: x  y"),
             ("put a @@1", "put a @@1: stored at 6"),
             ("get a", "get a: found at 7: @1"),
+            ("del a", "del a: removed at 8"),
+            ("del a", "del a: absent at 9"),
+            ("get a", "get a: missing at 10"),
             ("get ''", "get '': refused: a key has 1 to 255 bytes"),
         ]
         file = self.write("commands", "\n".join(line for line, _ in table).encode())
@@ -65,14 +68,14 @@ class Demonstration(unittest.TestCase):
         self.assertEqual((done.returncode, done.stderr), (0, b""))
 
     def test_a_value_may_come_from_a_file(self):
-        value = self.write("value", b"\xff" + b"v" * 4_078)
-        large = self.write("large", b"v" * 4_080)
+        value = self.write("value", b"\xff" + b"v" * 65_398)
+        large = self.write("large", b"v" * 65_400)
         lines = f"put a @{value}\nget a\nput b @{large}\nput c @{self.path('none')}\nput d @{large}"
         done = self.run_kv([self.path("store")], lines.encode())
         replies = [line.rsplit(": ", 1)[1] for line in done.stdout.decode().splitlines()]
         self.assertEqual(replies[0], "stored at 1")
-        self.assertEqual(replies[1], "\\xff" + "v" * 199 + "... (4,079 bytes)")
-        self.assertEqual(replies[2:], ["key and value have more than 4,080 bytes together"] * 2)
+        self.assertEqual(replies[1], "\\xff" + "v" * 199 + "... (65,399 bytes)")
+        self.assertEqual(replies[2:], ["key and value have more than 65,400 bytes together"] * 2)
         self.assertIn(b"line 4:", done.stderr)
         self.assertEqual(done.returncode, 2)
 
@@ -84,17 +87,17 @@ class Demonstration(unittest.TestCase):
             self.assertIn(f"line {number}:", done.stderr.decode())
         self.assertEqual(done.returncode, 2)
 
-    def test_a_store_that_is_there_is_refused(self):
-        self.assertEqual(self.run_kv([self.path("store")], b"put a 1\n").returncode, 0)
-        done = self.run_kv([self.path("store")], b"get a\n")
-        self.assertEqual((done.returncode, done.stdout), (3, b""))
-        self.assertIn(b"is there already", done.stderr)
+    def test_a_store_that_is_there_is_opened_again(self):
+        self.assertEqual(self.run_kv([self.path("store")], b"put a 1\nput b 2\ndel b\n").returncode, 0)
+        done = self.run_kv([self.path("store")], b"get a\nget b\n")
+        self.assertEqual(done.stdout, b"get a: found at 4: 1\nget b: missing at 5\n")
+        self.assertEqual((done.returncode, done.stderr), (0, b""))
 
-    def test_a_store_that_cannot_be_made_has_a_sentence(self):
+    def test_a_store_that_cannot_be_opened_has_a_sentence(self):
         plain = self.write("plain", b"")
         done = self.run_kv([os.path.join(plain, "store")], b"get a\n")
         self.assertEqual((done.returncode, done.stdout), (3, b""))
-        self.assertIn(b"can't be made", done.stderr)
+        self.assertIn(b"can't be opened", done.stderr)
 
     def test_a_long_file_is_pipelined_and_its_progress_told(self):
         file = self.write("long", b"put a 1\n" + b"get a\n" * 19_999)

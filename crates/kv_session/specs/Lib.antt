@@ -1,3 +1,5 @@
 pub mod Session
 pub mod Tasks
 pub mod Passage
+pub mod Reading
+pub mod Group

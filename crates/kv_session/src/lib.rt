@@ -2,8 +2,13 @@
 #![tactic(auto)]
 
 mod ending;
+mod fill;
 mod gathered;
+mod group;
+mod reader;
+mod refusal;
 mod session;
+mod window;
 
 pub use ending::{Ending, SessionParts};
 pub use gathered::Gathered;

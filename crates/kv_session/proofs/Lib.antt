@@ -1,2 +1,4 @@
 pub mod ReaderLemmas
 pub mod GroupLemmas
+pub mod OutgoingLemmas
+pub mod OutboxLemmas

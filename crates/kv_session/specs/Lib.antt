@@ -3,3 +3,4 @@ pub mod Tasks
 pub mod Passage
 pub mod Reading
 pub mod Group
+pub mod Outgoing

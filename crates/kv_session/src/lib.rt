@@ -5,6 +5,8 @@ mod ending;
 mod fill;
 mod gathered;
 mod group;
+mod outbox;
+mod pieces;
 mod reader;
 mod refusal;
 mod session;

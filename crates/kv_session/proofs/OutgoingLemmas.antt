@@ -170,7 +170,7 @@ GoesOut-more replies others left given some p = (
 )
 
 -- replies that went out with nothing left went out whole
-gone_whole : (replies : List Reply) (given : List ℕ) → GoesOut replies given []
+pub gone_whole : (replies : List Reply) (given : List ℕ) → GoesOut replies given []
     → given ≡ frames_of replies
 gone_whole replies given p =
     p.3 ∙ ap (λ (part : List ℕ). frames_of p.0 ++ part) p.4 ∙ append-nil (frames_of p.0)

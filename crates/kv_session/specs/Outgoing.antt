@@ -1,9 +1,13 @@
 -- Replies on their way to a session's sink.
 use Rattle.std.specs.Prelude.{◌≡◌, ℕ, ◌+◌, ◌<◌, ◌≤◌, List, [], ◌∷◌, ◌++◌, length, Bool, true, false}
+use Rattle.std.specs.Prelude.{Option, None, Some, if◌then◌else◌}
 use Rattle.std.specs.List.{flat_map}
+use Rattle.kv_base.specs.declared.cause.Cause.{Cause}
+use Rattle.kv_base.specs.declared.cause.Cause.TheVariants.{SinkFault}
 use Rattle.kv_base.specs.declared.reply.Reply.{Reply}
 use Rattle.kv_model.specs.Frames.{reply_frame}
 use Rattle.kv_model.specs.Transcript.{GoesOut}
+use Rattle.kv_session.specs.Reading.{closing_for}
 
 -- frames one behind the other, and where each ends
 pub record Framed : Type 0 where
@@ -45,3 +49,12 @@ pub record HaveGone (replies : List Reply) (given : List ℕ) (left : List Reply
 abbrev pub Sends : Bool → List Reply → List ℕ → List Reply → Type 0
 Sends true replies given left = HaveGone replies given left × (length left < length replies)
 Sends false replies given left = GoesOut replies given left × (1 ≤ length left)
+
+-- what is replied behind the last group, where reading has ended
+abbrev pub replies_behind : Option Cause → List Reply
+replies_behind None = []
+replies_behind (Some cause) = closing_for cause
+
+-- why the session ends behind replies that went out whole, or didn't
+abbrev pub cause_behind : Bool → Option Cause → Option Cause
+cause_behind whole closing = if whole then closing else Some SinkFault

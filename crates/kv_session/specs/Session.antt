@@ -25,6 +25,14 @@ pub record IsNew {So Si : Type 0} (session : SessionState So Si) : Type 0 where
   pub reads : session.closing ≡ None
   pub goes_on : session.ending ≡ None
 
+-- what the session took stays, and so does why its reading ended
+pub record KeepsReading {So Si : Type 0} (old new : SessionState So Si) : Type 0 where
+  pub source : new.source ≡ old.source
+  pub waiting : new.waiting ≡ old.waiting
+  pub taken : new.taken ≡ old.taken
+  pub ended : new.ended ≡ old.ended
+  pub closing : new.closing ≡ old.closing
+
 -- the group ended by its last request or a Flush while reading goes on, or with the reading
 abbrev pub EndsGroup : Gathered → Option Cause → Type 0
 EndsGroup More closing = closing ≡ None

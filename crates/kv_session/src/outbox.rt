@@ -6,11 +6,11 @@ ghost use Rattle.kv_base.specs.Calls.{next_count};
 ghost use Rattle.kv_base.specs.Stream.{Takes};
 ghost use Rattle.kv_model.specs.Frames.{HasReplyFrame};
 ghost use Rattle.kv_model.specs.Transcript.{GoesOut};
-ghost use Rattle.kv_session.specs.Outgoing.{HoldsFirst, Sends};
+ghost use Rattle.kv_session.specs.Outgoing.{HoldsFirst, Sends, replies_behind};
 ghost use Rattle.kv_session.specs.Tasks.{HaveReplies};
 
 use crate::pieces::Pieces;
-use kv_base::{NoMemory, Replies, Reply, ReservedList, Sink};
+use kv_base::{Cause, NoMemory, Replies, Reply, ReservedList, Sink};
 use kv_ring::{Task, Tasks};
 use std::alloc::Global;
 use std::marker::Model;
@@ -63,6 +63,28 @@ impl Outbox {
         ensures spare { self.new.spare + 1 ≡ self.old.spare }
     {
         self.replies.append(reply).unwrap();
+    }
+
+    /// Takes the replies of all tasks, and behind them the one that says so where reading has ended
+    /// as malformed. The list of tasks is empty then. Takes no memory.
+    pub fn load(&mut self, tasks: &mut Tasks, closing: Option<Cause>)
+        requires answered { (replies : List ReplyOf) × HaveReplies tasks.old.items replies
+            × AllByRecursion HasReplyFrame replies }
+        requires empty { self.old.items ≡ [] }
+        requires room { length tasks.old.items < self.old.spare }
+        ensures items { (replies : List ReplyOf) → HaveReplies tasks.old.items replies
+            → self.new.items ≡ replies ++ replies_behind closing }
+        ensures framed { AllByRecursion HasReplyFrame self.new.items }
+        ensures few { length self.new.items ≤ length tasks.old.items + 1 }
+        ensures spare { self.new.spare + length self.new.items ≡ self.old.spare }
+        ensures no_tasks { tasks.new.items ≡ [] }
+        ensures given_back { tasks.new.spare ≡ tasks.old.spare + length tasks.old.items }
+    {
+        match closing {
+            Some(Cause::Malformed { offset }) => self.put_first(Reply::Malformed { offset }),
+            _ => {}
+        }
+        self.take_replies(tasks);
     }
 
     /// Puts the replies of all tasks before the others, and takes the tasks off their list. Takes no

@@ -1,53 +1,54 @@
-ghost use Rattle.std.specs.Prelude.{◌≡◌, ◌≤◌, ◌+◌, ℕ, List, [], None, Some, true, length, IfOk};
-ghost use Rattle.std.specs.Prelude.{IfErr};
+ghost use Rattle.std.specs.Prelude.{◌≡◌, ◌≤◌, ◌<◌, ◌+◌, ◌^◌, ℕ, List, [], None, Some, true, length};
+ghost use Rattle.std.specs.Prelude.{IfOk, IfErr};
 ghost use Rattle.std.specs.List.{AllByRecursion};
 ghost use Rattle.kv_base.specs.declared.reply.Reply.{Reply as ReplyOf};
 ghost use Rattle.kv_base.specs.declared.request.Request.{Request as RequestOf};
 ghost use Rattle.kv_model.specs.BatchLaws.{pairs_of};
 ghost use Rattle.kv_model.specs.Frames.{HasReplyFrame};
 ghost use Rattle.kv_model.specs.Pairs.{Pair};
-ghost use Rattle.kv_session.specs.Session.{IsNew, EndsGroup};
+ghost use Rattle.kv_session.specs.Session.{IsNew, EndsGroup, KeepsReading};
 ghost use Rattle.kv_session.specs.Tasks.{AreTaken, HaveReplies};
+ghost use Rattle.kv_session.specs.Outgoing.{cause_behind};
 ghost use Rattle.kv_session.specs.Passage.{Streams, HasRead, Delivers, with_pairs};
 
 use crate::ending::{Ending, SessionParts};
 use crate::gathered::Gathered;
-use kv_base::{NoMemory, Sink, Source};
+use crate::group::read_group;
+use crate::outbox::Outbox;
+use crate::reader::Reader;
+use kv_base::{Cause, NoMemory, Sink, Source};
 use kv_ring::Tasks;
 use std::alloc::Global;
 use std::marker::Model;
 
-#[derive(Drop)]
-enum Never {}
-
 /// A client: its bytes come from a source, and the replies go to a sink. It takes at most 2^40 bytes.
 #[derive(Drop)]
 pub struct Session<So: Source, Si: Sink> {
-    source: So,
+    alloc: Global,
+    reader: Reader<So>,
     sink: Si,
-    waiting: Vec<u8>,
-    taken: u64,
-    ended: bool,
-    closing: Option<kv_base::Cause>,
+    outbox: Outbox,
+    closing: Option<Cause>,
     ending: Option<Ending>,
-    never: Never,
 }
 
 impl<So: Source, Si: Sink> Model for Session<So, Si> {
-    ghost use Rattle.std.specs.Prelude.{◌≡◌, ◌≤◌, ◌^◌, true, length};
+    ghost use Rattle.std.specs.Prelude.{◌≡◌, ◌≤◌, [], None};
     ghost use Rattle.kv_session.specs.Session.{SessionState};
 
     ghost Value = { SessionState So Si };
 
     ghost view = { λ s. record {
-      source = s.source;
+      source = s.reader.source;
       sink = s.sink;
-      waiting = s.waiting.items;
-      taken = s.taken;
-      ended = s.ended;
+      waiting = s.reader.waiting;
+      taken = s.reader.taken;
+      ended = s.reader.ended;
       closing = s.closing;
       ending = s.ending;
     } };
+
+    ghost invariant = { λ s. s.ending ≡ None → (s.outbox.items ≡ []) × (65 ≤ s.outbox.spare) };
 }
 
 impl<So: Source + Drop, Si: Sink + Drop> Session<So, Si> {
@@ -58,8 +59,20 @@ impl<So: Source + Drop, Si: Sink + Drop> Session<So, Si> {
             × (session.sink ≡ sink)) }
         ensures err { IfErr result (λ refused. (refused.0 ≡ source) × (refused.1 ≡ sink)) }
     {
-        let _ = alloc;
-        Err((source, sink, NoMemory))
+        let Ok(outbox) = Outbox::new(alloc) else {
+            return Err((source, sink, NoMemory));
+        };
+        match Reader::new(alloc, source) {
+            Ok(reader) => Ok(Session {
+                alloc,
+                reader,
+                sink,
+                outbox,
+                closing: None,
+                ending: None,
+            }),
+            Err((source, NoMemory)) => Err((source, sink, NoMemory)),
+        }
     }
 
     /// Reads a group: its requests of good sizes, each copied, and the replies to the others. It has
@@ -84,8 +97,19 @@ impl<So: Source + Drop, Si: Sink + Drop> Session<So, Si> {
             → HasRead streams source sink groups [] self.old
             → HasRead streams source sink groups asked self.new) }
         ensures goes_on { self.new.ending ≡ None }
+
+        // a group uses up bytes, of which no more than 2^40 come
+        ensures progress { result ≡ Gathered.More → length self.new.waiting + self.old.taken
+            < length self.old.waiting + self.new.taken }
+        ensures limit { self.new.taken ≤ 2 ^ 40 }
     {
-        match self.never {}
+        match read_group(&mut self.reader, self.alloc, tasks) {
+            None => Gathered::More,
+            Some(cause) => {
+                self.closing = Some(cause);
+                Gathered::Ending { cause }
+            }
+        }
     }
 
     /// Writes the replies to the group that was read last, and behind them, where that has ended the
@@ -111,8 +135,21 @@ impl<So: Source + Drop, Si: Sink + Drop> Session<So, Si> {
             → HasRead streams source sink groups asked self.old
             → Delivers streams source sink (with_pairs groups (pairs_of asked replies))
             self.old.closing self.new result }
+        ensures kept { KeepsReading self.old self.new }
     {
-        match self.never {}
+        self.outbox.load(tasks, self.closing);
+        let whole = self.outbox.send(&mut self.sink);
+        match end_for(self.closing, whole) {
+            None => whole,
+            Some(cause) => {
+                self.ending = Some(Ending {
+                    taken: self.reader.taken(),
+                    cause,
+                    undelivered: self.outbox.take_left(self.alloc),
+                });
+                whole
+            }
+        }
     }
 
     /// What it was made of, and how it ended, if it has.
@@ -124,15 +161,26 @@ impl<So: Source + Drop, Si: Sink + Drop> Session<So, Si> {
         } }
     {
         let Session {
-            source,
+            reader,
             sink,
             ending,
             ..
         } = self;
         SessionParts {
-            source,
+            source: reader.into_source(),
             sink,
             ending,
         }
+    }
+}
+
+/// Why the session ends behind replies, where it does: the sink failed, or reading has ended.
+fn end_for(closing: Option<Cause>, whole: bool) -> Option<Cause>
+    ensures { result ≡ cause_behind whole closing }
+{
+    if whole {
+        closing
+    } else {
+        Some(Cause::SinkFault)
     }
 }

@@ -57,13 +57,6 @@ end_full-short groups asked short =
     cond-false (eqb (length asked) 64) (end_group (groups_with groups asked))
     (groups_with groups asked) (ne_eqb (length asked) 64 (λ is. absurd (omega (arith, is, short))))
 
--- a full group ends
-pub end_full-whole : (groups : List (List Request)) (asked : List Request) → length asked ≡ 64
-    → end_full (groups_with groups asked) ≡ ended_groups (with_group groups asked)
-end_full-whole groups asked whole =
-    cond-true (eqb (length asked) 64) (end_group (groups_with groups asked))
-    (groups_with groups asked) (eq-eqb (length asked) 64 whole)
-
 -- a request with a reply stands in the current group
 next_groups-replied : (groups : Groups) (request : Request) → has_reply request ≡ true
     → next_groups groups request ≡ with_request groups request
@@ -98,12 +91,6 @@ Gathers-more asked request gathers short replied groups =
     fold-append next_groups (ended_groups groups) asked (request ∷ [])
     ∙ ap (λ (now : Groups). next_groups now request) (gathers-short asked gathers short groups)
     ∙ next_groups-replied (groups_with groups asked) request replied
-
--- a full group has ended
-pub Gathers-whole : (asked : List Request) → Gathers asked → length asked ≡ 64
-    → (groups : List (List Request))
-    → fold next_groups (ended_groups groups) asked ≡ ended_groups (with_group groups asked)
-Gathers-whole asked gathers whole groups = gathers groups ∙ end_full-whole groups asked whole
 
 -- a Flush ends the group
 pub Gathers-flush : (asked : List Request) (request : Request) → Gathers asked → length asked < 64

@@ -13,8 +13,8 @@ use Rattle.kv_model.specs.Transcript.{GoesOut}
 use Rattle.kv_ring.specs.declared.task.Task.{Task}
 use Rattle.kv_session.specs.Outgoing.{Framed, HoldsFrames, AddsFrame, HoldsFirst, HaveGone, Sends}
 use Rattle.kv_session.specs.Tasks.{HaveReplies}
-use Rattle.kv_session.proofs.OutgoingLemmas.{frames_some, HoldsFrames-more, HoldsFrames-length}
-use Rattle.kv_session.proofs.OutgoingLemmas.{HaveGone-none, HaveGone-trans, All-behind}
+use Rattle.kv_session.proofs.OutgoingLemmas.{HoldsFrames-more, HoldsFrames-length}
+use Rattle.kv_session.proofs.OutgoingLemmas.{HaveGone-trans, All-behind}
 use Rattle.kv_session.proofs.OutgoingLemmas.{reverse-last}
 
 -- ---- frames of the last replies
@@ -27,25 +27,10 @@ pub record FramesUpTo (replies left : List Reply) (framed : Framed) : Type 0 whe
   pub have : AllByRecursion HasReplyFrame (reverse left)
   pub counted : length first + length left ≡ length replies
 
--- none so far
-pub FramesUpTo-none : (replies : List Reply) (framed : Framed) → HoldsFrames framed []
-    → AllByRecursion HasReplyFrame (reverse replies) → FramesUpTo replies replies framed
-FramesUpTo-none replies framed holds have = record {
-  first = [];
-  holds = holds;
-  parts = refl;
-  have = have;
-  counted = omega arith;
-}
-
 module _ (replies left earlier : List Reply) (old new : Framed) (reply : Reply)
     (p : FramesUpTo replies left old) (last : IsLastAndRest left reply earlier) where
   reversed : reverse left ≡ reply ∷ reverse earlier
   reversed = ap (λ (rs : List Reply). reverse rs) last.0 ∙ reverse-last earlier reply
-
-  -- the last one that is left has a frame
-  pub last_has : HasReplyFrame reply
-  last_has = (subst (λ (rs : List Reply). AllByRecursion HasReplyFrame rs) reversed p.have).0
 
   -- and its end has a place
   pub last_fits : length replies ≤ 65 → length old.ends < 65
@@ -67,28 +52,6 @@ module _ (replies left earlier : List Reply) (old new : Framed) (reply : Reply)
     have = (subst (λ (rs : List Reply). AllByRecursion HasReplyFrame rs) reversed p.have).1;
     counted = omega (arith, p.counted, last.1, length-append p.first (reply ∷ []));
   }
-
-  -- it wasn't, for want of room
-  pub frames-full : AddsFrame false old new reply → HoldsFirst new (reverse replies)
-  frames-full adds = record {
-    first = p.first;
-    others = reverse left;
-    holds = subst (λ (framed : Framed). HoldsFrames framed p.first) (sym adds.0) p.holds;
-    parts = p.parts;
-    some = λ some. frames_some p.first
-        (omega (arith, ap (λ (bytes : List ℕ). length bytes) p.holds.bytes, adds.1));
-  }
-
--- all replies have their frames in the buffer
-pub frames-all : (replies left : List Reply) (framed : Framed) → FramesUpTo replies left framed
-    → length left ≡ 0 → HoldsFirst framed (reverse replies)
-frames-all replies left framed p none = record {
-  first = p.first;
-  others = reverse left;
-  holds = p.holds;
-  parts = p.parts;
-  some = λ some. omega (arith, p.counted, none, some, length-reverse replies);
-}
 
 -- ---- replies of tasks
 
@@ -145,15 +108,6 @@ pub record TakesReplies (before now : Reserved Task) (box loaded : Reserved Repl
       × HaveReplies now.items rest × (rest ++ loaded.items ≡ replies ++ box.items)
   pub spare : loaded.spare + length before.items ≡ box.spare + length now.items
   pub given_back : now.spare + length now.items ≡ before.spare + length before.items
-
--- none so far
-pub TakesReplies-none : (before : Reserved Task) (box : Reserved Reply)
-    → TakesReplies before before box box
-TakesReplies-none before box = record {
-  replies = λ replies are. (replies, are, refl);
-  spare = refl;
-  given_back = refl;
-}
 
 module _ (before now left : Reserved Task) (box loaded new : Reserved Reply) (task : Task)
     (p : TakesReplies before now box loaded) (off : now.items ≡ left.items ++ task ∷ []) where
@@ -229,17 +183,6 @@ pub record SendsUpTo {Si : Type 0} (held : Si → Option (List ℕ)) (faults : S
   pub calm : faults now ≡ faults sink
   pub spare : left.spare + length left.items ≡ replies.spare + length replies.items
 
--- none went out so far
-pub SendsUpTo-none : {Si : Type 0} (held : Si → Option (List ℕ)) (faults : Si → ℕ) (sink : Si)
-    (replies : Reserved Reply) → SendsUpTo held faults sink sink replies replies
-SendsUpTo-none held faults sink replies = record {
-  given = [];
-  took = Takes-nil (held sink);
-  gone = HaveGone-none replies.items;
-  calm = refl;
-  spare = refl;
-}
-
 module _ {Si : Type 0} (held : Si → Option (List ℕ)) (faults : Si → ℕ) (sink now : Si)
     (replies left : Reserved Reply) (p : SendsUpTo held faults sink now replies left) where
   -- those that are left have frames
@@ -248,14 +191,6 @@ module _ {Si : Type 0} (held : Si → Option (List ℕ)) (faults : Si → ℕ) (
   left_have have =
       All-behind HasReplyFrame p.gone.out left.items
       (subst (λ (rs : List Reply). AllByRecursion HasReplyFrame rs) p.gone.parts have)
-
-  -- and are no more
-  pub left_few : length left.items ≤ length replies.items
-  left_few = omega (
-    arith,
-    ap (λ (rs : List Reply). length rs) p.gone.parts,
-    length-append p.gone.out left.items,
-  )
 
   -- more went out
   pub SendsUpTo-more : (new : Si) (rest : Reserved Reply) (next : List ℕ)

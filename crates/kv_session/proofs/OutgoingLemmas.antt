@@ -46,11 +46,6 @@ ends_from-more from (first ∷ replies) reply =
     ap (λ (ends : List ℕ). (from + size) ∷ ends) (ends_from-more (from + size) replies reply
     ∙ ap (λ (end : ℕ). ends_from (from + size) replies ++ end ∷ []) at)
 
--- no frames
-pub HoldsFrames-none : (framed : Framed) → framed.bytes ≡ [] → framed.ends ≡ []
-    → HoldsFrames framed []
-HoldsFrames-none framed bytes ends = record { bytes = bytes; ends = ends }
-
 -- one frame more
 pub HoldsFrames-more : (old new : Framed) (replies : List Reply) (reply : Reply)
     → HoldsFrames old replies → AddsFrame true old new reply
@@ -147,11 +142,6 @@ goes_out from (reply ∷ replies) (suc whole) sent n up_to is =
 
 -- ---- what is left
 
--- the frames of no reply are none
-pub frames_some : (replies : List Reply) → 1 ≤ length (frames_of replies) → 1 ≤ length replies
-frames_some [] some = absurd (omega (arith, some))
-frames_some (reply ∷ replies) some = omega arith
-
 -- a part of the next reply is so whatever follows
 IsPart-more : (part : List ℕ) (left others : List Reply) → 1 ≤ length left → IsPart part left
     → IsPart part (left ++ others)
@@ -230,25 +220,6 @@ Sends-made framed replies left given whole holds some most goes is =
           )
     ]
 
--- one fault is counted exactly where the sink failed
-pub counted-made : (whole pieces before now : ℕ) → whole ≤ pieces
-    → CountedPieces before now whole pieces
-    → now ≡ cond (eqb whole pieces) before (next_count before)
-counted-made whole pieces before now most counted = elim (cases_lt whole pieces) [
-  | inl lt ↦
-      counted ∙ cond-true (ltb whole pieces) (next_count before) before (lt-ltb whole pieces lt)
-      ∙ sym (cond-false (eqb whole pieces) before (next_count before)
-      (ne_eqb whole pieces (λ e. absurd (omega (arith, e, lt)))))
-  | inr ge ↦
-      counted ∙ cond-false (ltb whole pieces) (next_count before) before (le-ltb whole pieces ge)
-      ∙ sym (cond-true (eqb whole pieces) before (next_count before)
-      (eq-eqb whole pieces (omega (arith, ge, most))))
-]
-
--- nothing has gone
-pub HaveGone-none : (replies : List Reply) → HaveGone replies [] replies
-HaveGone-none replies = record { out = []; parts = refl; gave = refl }
-
 -- replies have gone, and then more
 pub HaveGone-trans : (replies mid left : List Reply) (given next : List ℕ)
     → HaveGone replies given mid → HaveGone mid next left → HaveGone replies (given ++ next) left
@@ -273,17 +244,6 @@ HaveGone-goes replies mid left given next p q = (
       ∙ sym (append_assoc (frames_of p.out) (frames_of q.0) q.1)
       ∙ ap (λ (bytes : List ℕ). bytes ++ q.1) (sym (flat_map-append reply_frame p.out q.0)),
   q.4,
-)
-
--- all replies have gone
-pub HaveGone-all : (replies left : List Reply) (given : List ℕ) → HaveGone replies given left
-    → left ≡ [] → GoesOut replies given left
-HaveGone-all replies left given p none = rw none (
-  p.out,
-  [],
-  p.parts ∙ ap (λ (rs : List Reply). p.out ++ rs) none,
-  p.gave ∙ sym (append-nil (frames_of p.out)),
-  refl,
 )
 
 -- what holds of each of all replies holds of each that is left

@@ -43,26 +43,28 @@ reader_of session = record {
 }
 
 -- a session that took no byte has no group
-pub HasRead-new : {So Si : Type 0} (streams : Streams So Si) (session : SessionState So Si)
-    → IsNew session → HasRead streams session.source session.sink [] [] session
-HasRead-new streams session new = record {
-  bytes = [];
-  given = [];
-  handled = [];
-  passed = Passes-nil (streams.stream session.source);
-  took = Takes-nil (streams.held session.sink);
-  counted = new.none_taken;
-  spent = λ over. let input = new.input in absurd cc;
-  fronts = record { parts = sym new.none_waits; each = tt };
-  last = subst (λ (closing : Option Cause). IsLastGroup closing [] session.waiting session.ended
-      no_groups [] []) (sym new.reads) (refl, refl);
-  framed = tt;
-  out = refl;
-  source_counted = ap (λ (closing : Option Cause). source_faults_at closing
-      (streams.source_faults session.source)) (sym new.reads);
-  sink_counted = refl;
-  goes_on = new.goes_on;
-}
+pub HasRead-new : {So Si : Type 0} (streams : Streams So Si) (source : So) (sink : Si)
+    (session : SessionState So Si) → IsNew session → session.source ≡ source
+    → session.sink ≡ sink → HasRead streams source sink [] [] session
+HasRead-new streams source sink session new same_source same_sink = rw (← same_source, ← same_sink)
+    (record {
+      bytes = [];
+      given = [];
+      handled = [];
+      passed = Passes-nil (streams.stream session.source);
+      took = Takes-nil (streams.held session.sink);
+      counted = new.none_taken;
+      spent = λ over. let input = new.input in absurd cc;
+      fronts = record { parts = sym new.none_waits; each = tt };
+      last = subst (λ (closing : Option Cause). IsLastGroup closing [] session.waiting
+          session.ended no_groups [] []) (sym new.reads) (refl, refl);
+      framed = tt;
+      out = refl;
+      source_counted = ap (λ (closing : Option Cause). source_faults_at closing
+          (streams.source_faults session.source)) (sym new.reads);
+      sink_counted = refl;
+      goes_on = new.goes_on;
+    })
 
 -- requests behind others make their group behind the others' groups
 groups_of-append : (handled requests asked : List Request) (groups : List (List Request))

@@ -9,16 +9,6 @@ use Rattle.kv_base.proofs.StreamLemmas.{Passes-nil, Passes-trans}
 use Rattle.kv_model.specs.Frames.{BeginsWithNoRequest, IsMalformed}
 use Rattle.kv_session.specs.Reading.{ReaderState, Arrives, NeedsMore, StaysDecided}
 
--- nothing arrived
-pub Arrives-nil : (now : Option Stream) (waiting : List ℕ) (count : ℕ)
-    → Arrives now now waiting waiting count count
-Arrives-nil now waiting count = record {
-  bytes = [];
-  passed = Passes-nil now;
-  behind = sym (append-nil waiting);
-  counted = omega arith;
-}
-
 -- bytes arrived, and then more
 pub Arrives-trans : {a b c : Option Stream} {x y z : List ℕ} {k m n : ℕ} → Arrives a b x y k m
     → Arrives b c y z m n → Arrives a c x z k n

@@ -1,5 +1,5 @@
 ghost use Rattle.std.specs.Prelude.{◌≡◌, ◌≤◌, ◌<◌, ◌+◌, ◌^◌, ℕ, List, [], None, Some, true, length};
-ghost use Rattle.std.specs.Prelude.{IfOk, IfErr};
+ghost use Rattle.std.specs.Prelude.{◌↔◌, IfOk, IfErr};
 ghost use Rattle.std.specs.List.{AllByRecursion};
 ghost use Rattle.kv_base.specs.declared.reply.Reply.{Reply as ReplyOf};
 ghost use Rattle.kv_base.specs.declared.request.Request.{Request as RequestOf};
@@ -57,6 +57,12 @@ impl<So: Source + Drop, Si: Sink + Drop> Session<So, Si> {
     pub fn new(alloc: Global, source: So, sink: Si) -> Result<Session<So, Si>, (So, Si, NoMemory)>
         ensures ok { IfOk result (λ session. IsNew session × (session.source ≡ source)
             × (session.sink ≡ sink)) }
+        ensures begins { let streams : Streams So Si = record {
+          stream = So.stream;
+          source_faults = So.faults;
+          held = Si.held;
+          sink_faults = Si.faults;
+        } in IfOk result (λ session. HasRead streams source sink [] [] session) }
         ensures err { IfErr result (λ refused. (refused.0 ≡ source) × (refused.1 ≡ sink)) }
     {
         let Ok(outbox) = Outbox::new(alloc) else {
@@ -136,6 +142,8 @@ impl<So: Source + Drop, Si: Sink + Drop> Session<So, Si> {
             → Delivers streams source sink (with_pairs groups (pairs_of asked replies))
             self.old.closing self.new result }
         ensures kept { KeepsReading self.old self.new }
+        ensures goes_on { (self.new.ending ≡ None) ↔ ((result ≡ true)
+            × (self.old.closing ≡ None)) }
     {
         self.outbox.load(tasks, self.closing);
         let whole = self.outbox.send(&mut self.sink);

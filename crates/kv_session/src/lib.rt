@@ -10,6 +10,8 @@ mod pieces;
 mod reader;
 mod refusal;
 mod session;
+#[cfg(test)]
+mod tests;
 mod window;
 
 pub use ending::{Ending, SessionParts};

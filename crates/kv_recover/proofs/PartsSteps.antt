@@ -19,7 +19,6 @@ use Rattle.kv_recover.specs.Causes.{HasSlabCause, HasMakeCause, HasOpenCause}
 use Rattle.kv_recover.specs.Causes.{IsSpared, IsUntouched}
 use Rattle.kv_recover.specs.HeadCheck.{AreBlank}
 use Rattle.kv_recover.specs.Opened.{KeepsStore, KeepsSlabs, IsOpenedStore, LeftOrKept, IsPrepared}
-use Rattle.kv_recover.proofs.CauseLemmas.{rose-since}
 use Rattle.kv_recover.proofs.FreeSteps.{Told}
 use Rattle.kv_recover.proofs.OpenSteps.{weaker-told}
 use Rattle.kv_recover.proofs.OpenedLemmas.{class_cases, heads_none}
@@ -102,10 +101,9 @@ module _ {D : Type 0} (d : Ghosts D) (told : Told d) (worker workers : ℕ) (old
         ∙ (opened tells).bounded class page low high from)
 
     -- each refusal has its cause
-    pub parts-cause : (fault : OpenFault) (before between after : ℕ) → before ≤ between
-        → HasSlabCause (IsTrue d.tells) (d.seen mid) between after fault
-        → HasOpenCause (IsTrue d.tells) (d.seen old) worker workers before after fault
-    parts-cause NotAStore before between after up cause = λ tells.
+    pub parts-cause : (fault : OpenFault) → HasSlabCause (IsTrue d.tells) (d.seen mid) fault
+        → HasOpenCause (IsTrue d.tells) (d.seen old) worker workers fault
+    parts-cause NotAStore cause = λ tells.
         let past = cause tells in (
           inr (inr (
             past.0,
@@ -120,8 +118,8 @@ module _ {D : Type 0} (d : Ghosts D) (told : Told d) (worker workers : ℕ) (old
           )),
           prepared-own d worker workers old mid tells (prepared tells) below limit,
         )
-    parts-cause (OtherStore a b x y) before between after up cause = absurd cause
-    parts-cause (StampsSpent stamp) before between after up cause = (
+    parts-cause (OtherStore a b x y) cause = absurd cause
+    parts-cause (StampsSpent stamp) cause = (
       cause.0,
       (λ tells. (
         subst (λ heads. IsFloor heads stamp) (same_heads (d.seen mid) (d.seen old)
@@ -130,23 +128,23 @@ module _ {D : Type 0} (d : Ghosts D) (told : Told d) (worker workers : ℕ) (old
             (cause.1 tells).1,
       )),
     )
-    parts-cause DiskFault before between after up cause = rose-since before between after up cause
-    parts-cause NoMemory before between after up cause = tt
+    parts-cause DiskFault cause = tt
+    parts-cause NoMemory cause = tt
 
   -- a disk that was made a store isn't refused before anything is written
-  not_made : (fault : OpenFault) (between after : ℕ) → IsTrue d.tells → IsSpared fault
-      → HasSlabCause (IsTrue d.tells) (d.seen mid) between after fault
+  not_made : (fault : OpenFault) → IsTrue d.tells → IsSpared fault
+      → HasSlabCause (IsTrue d.tells) (d.seen mid) fault
       → AreBlank (d.seen mid) → ⊥
-  not_made NotAStore between after tells spared cause blank =
+  not_made NotAStore tells spared cause blank =
       let past = cause tells in past.3.2 (blank past.0 past.3.0 past.1 past.2)
-  not_made (OtherStore a b x y) between after tells spared cause blank = absurd cause
-  not_made (StampsSpent stamp) between after tells spared cause blank =
+  not_made (OtherStore a b x y) tells spared cause blank = absurd cause
+  not_made (StampsSpent stamp) tells spared cause blank =
       let none = blank-floor (d.seen mid) stamp blank (cause.1 tells).0 in omega (arith, cause.0)
-  not_made DiskFault between after tells spared cause blank = absurd spared
-  not_made NoMemory between after tells spared cause blank = absurd spared
+  not_made DiskFault tells spared cause blank = absurd spared
+  not_made NoMemory tells spared cause blank = absurd spared
 
-  module _ (fault : OpenFault) (between after : ℕ) (spared : IsSpared fault)
-      (cause : HasSlabCause (IsTrue d.tells) (d.seen mid) between after fault)
+  module _ (fault : OpenFault) (spared : IsSpared fault)
+      (cause : HasSlabCause (IsTrue d.tells) (d.seen mid) fault)
       (reads : OnlyReads d mid new) where
     untouched_by : IsTrue d.tells → IsUntouched d old new
     untouched_by tells = elim (prepared tells) [
@@ -154,7 +152,7 @@ module _ {D : Type 0} (d : Ghosts D) (told : Told d) (worker workers : ℕ) (old
         seen = λ again. reads.seen again ∙ was.0.seen again;
         crash = λ f p x left. was.0.crash f p x (reads.crash.no_more f p x left);
       }
-      | inr made ↦ absurd (not_made fault between after tells spared cause
+      | inr made ↦ absurd (not_made fault tells spared cause
           (λ class page low high. prepared-slabs d worker workers old mid tells (prepared tells)
           class page low ∙ made.0.slabs class page low high))
     ]
@@ -167,11 +165,11 @@ module _ {D : Type 0} (d : Ghosts D) (told : Told d) (worker workers : ℕ) (old
     }
 
 -- a refusal before the slabs are read has its cause
-pub prepare-cause : (tells : Type 0) (first : Image) (worker workers before after : ℕ)
-    (fault : OpenFault) → HasMakeCause tells first worker workers before after fault
-    → HasOpenCause tells first worker workers before after fault
-prepare-cause tells first worker workers before after NotAStore cause = cause
-prepare-cause tells first worker workers before after (OtherStore a b x y) cause = cause
-prepare-cause tells first worker workers before after (StampsSpent stamp) cause = absurd cause
-prepare-cause tells first worker workers before after DiskFault cause = cause
-prepare-cause tells first worker workers before after NoMemory cause = tt
+pub prepare-cause : (tells : Type 0) (first : Image) (worker workers : ℕ)
+    (fault : OpenFault) → HasMakeCause tells first worker workers fault
+    → HasOpenCause tells first worker workers fault
+prepare-cause tells first worker workers NotAStore cause = cause
+prepare-cause tells first worker workers (OtherStore a b x y) cause = cause
+prepare-cause tells first worker workers (StampsSpent stamp) cause = absurd cause
+prepare-cause tells first worker workers DiskFault cause = cause
+prepare-cause tells first worker workers NoMemory cause = tt

@@ -8,6 +8,7 @@ ghost use Rattle.kv_model.specs.Layout.{all_classes};
 ghost use Rattle.kv_model.specs.Recovery.{OpensAs};
 ghost use Rattle.kv_recover.specs.Causes.{HasReadCause, HasSlabCause, HasOpenCause, IsSpared};
 ghost use Rattle.kv_recover.specs.Causes.{IsUntouched};
+ghost use Rattle.kv_recover.specs.Faults.{AreFaultsCounted};
 ghost use Rattle.kv_recover.specs.Free.{HasFreedBelow, reading_of};
 ghost use Rattle.kv_recover.specs.FreeLarge.{AnyMayBeFreed, FreesAnyBelow, EntriesStand};
 ghost use Rattle.kv_recover.specs.Opened.{FindsAllBelow, KeepsSlabs, IsOpenedStore};
@@ -64,7 +65,8 @@ pub fn find_all<D: Disk, I: Index>(
     ensures zero { IfOk result (λ found. slice_index found.ends 0 ≡ 0) }
     ensures counted { OnOk result (HasCounts (I.entries items.new.index) items.new.counts) }
     ensures cause { IfErr result (HasReadCause (IsTrue D.tells → (class : ℕ) × (1 ≤ class)
-        × (class ≤ 11) × IsPast (D.seen disk.old) class) (D.faults disk.old) (D.faults disk.new)) }
+        × (class ≤ 11) × IsPast (D.seen disk.old) class)) }
+    ensures faults { AreFaultsCounted (D.faults disk.old) (D.faults disk.new) result }
 {
     let small = find_small(alloc, disk, items, share)?;
     let Found {
@@ -102,8 +104,8 @@ pub fn free_all<D: Disk, I: Index>(
         (AnyMayBeFreed (I.entries index.now) first (λ c. slice_index ends.now c) floor 12 0) }
     ensures range { floor < 2 ^ 64 }
     ensures count { IfOk result (λ stacks. length stacks.items ≡ 12) }
-    ensures later { D.faults disk.old ≤ D.faults disk.new }
-    ensures cause { IfErr result (HasReadCause ⊥ (D.faults disk.old) (D.faults disk.new)) }
+    ensures cause { IfErr result (HasReadCause ⊥) }
+    ensures counted { AreFaultsCounted (D.faults disk.old) (D.faults disk.new) result }
 {
     let mut stacks = ReservedList::with_room(alloc, 12)?;
     stacks.append(Stacks::new()).unwrap();
@@ -160,11 +162,10 @@ pub fn open_slabs<D: Disk, I: Index>(
     // crashes and refusals
     ensures any_moment { LeavesOnly (D.calls disk.old) (D.calls disk.new) (D.leaves disk.old)
         (D.leaves disk.new) (KeepsSlabs (D.seen disk.old) share.worker share.workers) }
-    ensures cause { IfErr result (HasSlabCause (IsTrue D.tells) (D.seen disk.old)
-        (D.faults disk.old) (D.faults disk.new)) }
+    ensures cause { IfErr result (HasSlabCause (IsTrue D.tells) (D.seen disk.old)) }
+    ensures faults { AreFaultsCounted (D.faults disk.old) (D.faults disk.new) result }
     ensures spared { IfErr result (λ fault. IsSpared fault
         → OnlyReads ⟦<D as Disk>⟧ disk.old disk.new) }
-    ensures later { D.faults disk.old ≤ D.faults disk.new }
 {
     let found = find_all(alloc, disk, items, share)?;
     let Found { floor, ends } = found;
@@ -209,10 +210,10 @@ pub fn open_parts<D: Disk, I: Index>(
     ensures any_moment { LeavesOnly (D.calls disk.old) (D.calls disk.new) (D.leaves disk.old)
         (D.leaves disk.new) (LeftOrKept ⟦<D as Disk>⟧ disk.old share.worker share.workers) }
     ensures cause { IfErr result (HasOpenCause (IsTrue D.tells) (D.seen disk.old) share.worker
-        share.workers (D.faults disk.old) (D.faults disk.new)) }
+        share.workers) }
+    ensures faults { AreFaultsCounted (D.faults disk.old) (D.faults disk.new) result }
     ensures spared { IfErr result (λ fault. IsSpared fault
         → IsUntouched ⟦<D as Disk>⟧ disk.old disk.new) }
-    ensures later { D.faults disk.old ≤ D.faults disk.new }
 {
     prepare(disk, share)?;
     let parts = open_slabs(alloc, disk, items, share)?;

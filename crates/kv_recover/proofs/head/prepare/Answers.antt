@@ -67,14 +67,12 @@ returns-in_err-make_store-clause-cause g c =
     ap (λ image. image 0 0) (sym (c.sync.ensures.seen tells))
     ∙ subst (λ b. IsGoodHead b (g.D.Disk.seen c.sync.new.self 0 0) c.args.share.worker
     c.args.share.workers) c.if-branch.true (c.in_ok-check_head.ensures.ok tells) in
-    let up : g.D.Disk.faults c.args.disk.now ≤ g.D.Disk.faults c.check_head.new.disk = omega arith in
     let cause = make-cause (IsTrue g.D.Disk.tells) (g.D.Disk.seen c.args.disk.now)
     (g.D.Disk.seen c.check_head.new.disk) c.args.share.worker c.args.share.workers
-    (g.D.Disk.faults c.args.disk.now) (g.D.Disk.faults c.check_head.new.disk)
-    (g.D.Disk.faults c.make_store.new.disk) c.in_err-make_store.field-0.0 up
+    c.in_err-make_store.field-0.0
     (λ tells. c.check_head.ensures.reads.seen tells ∙ c.sync.ensures.seen tells) zero
     c.in_err-make_store.ensures.cause in
     let given = c.from_residual-in_err-make_store.ensures.1 in
     handed c.from_residual-in_err-make_store.result _ _ given (λ e is. subst (HasMakeCause (IsTrue g.D.Disk.tells)
-    (g.D.Disk.seen c.args.disk.now) c.args.share.worker c.args.share.workers
-    (g.D.Disk.faults c.args.disk.now) (g.D.Disk.faults c.make_store.new.disk)) (sym is) cause)
+    (g.D.Disk.seen c.args.disk.now) c.args.share.worker c.args.share.workers)
+    (sym is) cause)

@@ -15,10 +15,8 @@ pub returns-in_err-prepare-clause-cause : goal.returns-in_err-prepare-clause-cau
 returns-in_err-prepare-clause-cause g c =
     handed c.from_residual.result _ _ c.from_residual.ensures.1
     (λ e is. subst (HasOpenCause (IsTrue g.D.Disk.tells) (g.D.Disk.seen c.args.disk.now)
-    c.args.share.worker c.args.share.workers (g.D.Disk.faults c.args.disk.now)
-    (g.D.Disk.faults c.prepare.new.disk)) (sym is) (prepare-cause (IsTrue g.D.Disk.tells)
+    c.args.share.worker c.args.share.workers) (sym is) (prepare-cause (IsTrue g.D.Disk.tells)
     (g.D.Disk.seen c.args.disk.now) c.args.share.worker c.args.share.workers
-    (g.D.Disk.faults c.args.disk.now) (g.D.Disk.faults c.prepare.new.disk)
     c.in_err-prepare.field-0.0 c.in_err-prepare.ensures.cause))
 
 pub returns-in_err-parts-clause-any_moment : goal.returns-in_err-parts-clause-any_moment
@@ -31,12 +29,10 @@ pub returns-in_err-parts-clause-cause : goal.returns-in_err-parts-clause-cause
 returns-in_err-parts-clause-cause g c =
     handed c.from_residual-in_err-parts.result _ _ c.from_residual-in_err-parts.ensures.1
     (λ e is. subst (HasOpenCause (IsTrue g.D.Disk.tells) (g.D.Disk.seen c.args.disk.now)
-    c.args.share.worker c.args.share.workers (g.D.Disk.faults c.args.disk.now)
-    (g.D.Disk.faults c.open_slabs.new.disk)) (sym is) (parts-cause g.D.Disk g.met.D.Disk.told c.args.share.worker c.args.share.workers c.args.disk.now
+    c.args.share.worker c.args.share.workers) (sym is) (parts-cause g.D.Disk g.met.D.Disk.told c.args.share.worker c.args.share.workers c.args.disk.now
     c.prepare.new.disk
     c.open_slabs.new.disk c.in_ok-prepare.ensures.prepared c.requires.below c.requires.limit
-    c.in_err-parts.field-0.0 (g.D.Disk.faults c.args.disk.now) (g.D.Disk.faults c.prepare.new.disk)
-    (g.D.Disk.faults c.open_slabs.new.disk) c.prepare.ensures.later c.in_err-parts.ensures.cause))
+    c.in_err-parts.field-0.0 c.in_err-parts.ensures.cause))
 
 pub returns-in_err-parts-clause-spared : goal.returns-in_err-parts-clause-spared
 returns-in_err-parts-clause-spared g c =
@@ -44,8 +40,7 @@ returns-in_err-parts-clause-spared g c =
     (λ e is spared. let was = subst IsSpared is spared in
     parts-spared g.D.Disk g.met.D.Disk.told c.args.share.worker c.args.share.workers c.args.disk.now
     c.prepare.new.disk
-    c.open_slabs.new.disk c.in_ok-prepare.ensures.prepared c.in_err-parts.field-0.0
-    (g.D.Disk.faults c.prepare.new.disk) (g.D.Disk.faults c.open_slabs.new.disk) was
+    c.open_slabs.new.disk c.in_ok-prepare.ensures.prepared c.in_err-parts.field-0.0 was
     c.in_err-parts.ensures.cause (c.in_err-parts.ensures.spared was))
 
 pub returns-clause-any_moment : goal.returns-clause-any_moment

@@ -24,5 +24,5 @@ returns-in-Ok-slabs_of-clause-ok g c =
       keeps = c.in-Ok.ensures.same;
       durable = c.in-Ok.ensures.durable;
       any_moment = c.open_parts.ensures.any_moment;
-      later = c.open_parts.ensures.later;
+      calm = c.in-Ok.ensures.faults;
     })

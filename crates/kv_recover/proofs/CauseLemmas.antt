@@ -1,6 +1,6 @@
 -- Causes of refusals, handed on.
 use Rattle.std.proofs.Common.{◌≡◌, inl, inr, ℕ, sym, subst, ap, ◌∙◌}
-use Rattle.std.proofs.Common.{Result, Ok, Err, IfErr}
+use Rattle.std.proofs.Common.{Result, Ok, Err, IfErr, OnErr}
 use Rattle.std.specs.Result.{IsErrAnd}
 use Rattle.kv_base.specs.Image.{Image, zero_page}
 use Rattle.kv_slot.proofs.HeadLemmas.{zeros_no_head}
@@ -9,7 +9,7 @@ use Rattle.kv_recover.specs.declared.fault.OpenFault.TheVariants.{NotAStore, Oth
 use Rattle.kv_recover.specs.declared.fault.OpenFault.TheVariants.{DiskFault, NoMemory}
 use Rattle.kv_recover.specs.Faults.{faults_after, AreFaultsCounted}
 use Rattle.kv_recover.specs.Causes.{HasReadCause, HasHeadCause, HasMakeCause, IsUsed}
-use Rattle.kv_recover.specs.Causes.{IsPastEnd, IsNoOthers}
+use Rattle.kv_recover.specs.Causes.{HasCheckCause, IsPastEnd, IsNoOthers, IsOwn}
 
 -- what is known of an error holds of the error that is handed on
 pub handed : {T E : Type 0} (result : Result T E) (P Q : E → Type 0) → IsErrAnd result P
@@ -23,22 +23,24 @@ pub if_err : {T E : Type 0} (result : Result T E) (P Q : E → Type 0) → IfErr
 if_err (Ok x) P Q ensured so = tt
 if_err (Err e) P Q ensured so = so e ensured
 
+-- what holds anyway holds where there is an error
+pub on_err : {T E : Type 0} (result : Result T E) (P : Type 0) → P → OnErr result P
+on_err (Ok x) P is = tt
+on_err (Err e) P is = is
+
 -- a disk that can't be made a store
 pub make-cause : (tells : Type 0) (first now : Image) (worker workers : ℕ)
     (fault : OpenFault) → (tells → now ≡ first) → (tells → first 0 0 ≡ zero_page)
-    → HasReadCause (tells → IsUsed now) fault
+    → HasCheckCause (tells → IsUsed now) fault
     → HasMakeCause tells first worker workers fault
 make-cause tells first now worker workers NotAStore same zero cause = λ told. (
   inr (inl (zero told, subst IsUsed (same told) (cause told))),
   (λ a b head. absurd (zeros_no_head (first 0 0) a b (zero told) head)),
 )
-make-cause tells first now worker workers (OtherStore a b c d) same zero cause =
-    absurd cause
-make-cause tells first now worker workers (StampsSpent stamp) same zero cause =
-    absurd cause
-make-cause tells first now worker workers DiskFault same zero cause =
-    tt
-make-cause tells first now worker workers NoMemory same zero cause = tt
+make-cause tells first now worker workers (OtherStore a b c d) same zero cause = absurd cause
+make-cause tells first now worker workers (StampsSpent stamp) same zero cause = absurd cause
+make-cause tells first now worker workers DiskFault same zero cause = tt
+make-cause tells first now worker workers NoMemory same zero cause = absurd cause
 
 -- a disk whose head page is refused
 pub head-cause : (tells : Type 0) (first : Image) (worker workers : ℕ)
@@ -51,24 +53,22 @@ head-cause tells first worker workers NotAStore cause = λ told. (
 head-cause tells first worker workers (OtherStore a b c d) cause = cause
 head-cause tells first worker workers (StampsSpent stamp) cause = absurd cause
 head-cause tells first worker workers DiskFault cause = cause
-head-cause tells first worker workers NoMemory cause = tt
+head-cause tells first worker workers NoMemory cause = absurd cause
 
 -- a disk with a byte past the most slots of a class
 pub past-cause : (tells : Type 0) (first : Image) (worker workers : ℕ)
     (fault : OpenFault) → (tells → IsNoOthers (first 0 0) worker workers)
+    → (tells → IsOwn first worker workers)
     → HasReadCause (tells → IsPastEnd first) fault
     → HasMakeCause tells first worker workers fault
-past-cause tells first worker workers NotAStore own cause = λ told. (
+past-cause tells first worker workers NotAStore others own cause = λ told. (
   inr (inr (cause told)),
-  own told,
+  others told,
 )
-past-cause tells first worker workers (OtherStore a b c d) own cause =
-    absurd cause
-past-cause tells first worker workers (StampsSpent stamp) own cause =
-    absurd cause
-past-cause tells first worker workers DiskFault own cause =
-    tt
-past-cause tells first worker workers NoMemory own cause = tt
+past-cause tells first worker workers (OtherStore a b c d) others own cause = absurd cause
+past-cause tells first worker workers (StampsSpent stamp) others own cause = absurd cause
+past-cause tells first worker workers DiskFault others own cause = tt
+past-cause tells first worker workers NoMemory others own cause = own
 
 -- the refusal of a disk that reads as another one does
 pub at_first : (tells : Type 0) (now first : Image) (fault : OpenFault)

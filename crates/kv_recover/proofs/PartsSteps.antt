@@ -1,5 +1,6 @@
 -- The slabs of a prepared disk are opened.
-use Rattle.std.proofs.Common.{◌≡◌, inl, inr, ℕ, ◌<◌, ◌≤◌, List, [], ◌∷◌, sym}
+use Rattle.std.proofs.Common.{◌≡◌, ◌⊎◌, inl, inr, ℕ, ◌<◌, ◌≤◌, List, [], ◌∷◌, refl, sym, lit<}
+use Rattle.std.proofs.lemmas.Bool.{cases_Bool, false≢true}
 use Rattle.std.proofs.Common.{◌∙◌, subst, arith, IsTrue, zero, suc, get_or, length}
 use Rattle.std.specs.List.{AllByRecursion}
 use Rattle.kv_base.specs.Image.{Image}
@@ -11,12 +12,12 @@ use Rattle.kv_index.specs.Entries.{Entries}
 use Rattle.kv_free.specs.FreeList.{Tail}
 use Rattle.kv_model.specs.Layout.{all_classes, pages_in_slot}
 use Rattle.kv_model.specs.Reading.{heads_at, large_slot, small_slot, page_of, IsFloor}
-use Rattle.kv_model.specs.Recovery.{OpensAs}
+use Rattle.kv_model.specs.Recovery.{OpensAs, IsNew}
 use Rattle.kv_recover.specs.declared.fault.OpenFault.{OpenFault}
 use Rattle.kv_recover.specs.declared.fault.OpenFault.TheVariants.{NotAStore, OtherStore, StampsSpent}
 use Rattle.kv_recover.specs.declared.fault.OpenFault.TheVariants.{DiskFault, NoMemory}
 use Rattle.kv_recover.specs.Causes.{HasSlabCause, HasMakeCause, HasOpenCause}
-use Rattle.kv_recover.specs.Causes.{IsSpared, IsUntouched}
+use Rattle.kv_recover.specs.Causes.{IsSpared, IsUntouched, AreBounded, HasStampsLeft, IsUsable}
 use Rattle.kv_recover.specs.HeadCheck.{AreBlank}
 use Rattle.kv_recover.specs.Opened.{KeepsStore, KeepsSlabs, IsOpenedStore, LeftOrKept, IsPrepared}
 use Rattle.kv_recover.proofs.FreeSteps.{Told}
@@ -27,6 +28,7 @@ use Rattle.kv_recover.proofs.SlabLemmas.{slot-zeros, stamp_zeros}
 use Rattle.kv_recover.proofs.LargeLemmas.{heads_at-large, heads_zero_pages, all_range}
 use Rattle.kv_recover.proofs.PrepareSteps.{same_heads, store-slabs, prepared-headed, prepared-keeps}
 use Rattle.kv_recover.proofs.PrepareSteps.{prepared-slabs, prepared-opens, prepared-own}
+use Rattle.kv_recover.proofs.PrepareSteps.{prepared-start, class_within}
 
 -- all numbers at the heads of blank slabs are 0
 blank-heads : (image : Image) → AreBlank image → (c s : ℕ)
@@ -47,6 +49,10 @@ blank-heads image blank c s = elim (class_cases c) [
   ]
 ]
 
+all-none : (xs : List ℕ) → AllByRecursion (λ n. n ≡ 0) xs → AllByRecursion (λ n. n ≤ 0) xs
+all-none [] all = tt
+all-none (x ∷ xs) all = (omega (arith, all.0), all-none xs all.1)
+
 all_zero_at : (xs : List ℕ) (x k : ℕ) → AllByRecursion (λ n. n ≡ 0) xs → k < length xs
     → get_or xs k x ≡ 0
 all_zero_at [] x k all within = absurd (omega arith)
@@ -62,6 +68,27 @@ blank-floor image floor blank is = elim is.one [
       ∙ all_zero_at (heads_at all_classes image some.0 some.1) floor some.2.0
       (blank-heads image blank some.0 some.1) some.2.1
 ]
+
+-- a new disk can be used
+pub usable-new : (image : Image) (worker workers : ℕ) → worker < workers → workers ≤ 16
+    → IsNew image → IsUsable image worker workers
+usable-new image worker workers below limit new = record {
+  opens = record {
+    worker_is = record { below = below; limit = limit };
+    head = inl new;
+    bounded = λ class page has from.
+        let within = class_within class has in new.slabs class page within.0 within.1;
+  };
+  left = record {
+    floor = 0;
+    floor_is = record {
+      above = λ class slot. all-none (heads_at all_classes image class slot)
+          (blank-heads image new.slabs class slot);
+      one = inl refl;
+    };
+    spare = lit< tt;
+  };
+}
 
 module _ {D : Type 0} (d : Ghosts D) (told : Told d) (worker workers : ℕ) (old mid new : D)
     (prepared : IsTrue d.tells → IsPrepared d worker workers old mid) where
@@ -129,7 +156,39 @@ module _ {D : Type 0} (d : Ghosts D) (told : Told d) (worker workers : ℕ) (old
       )),
     )
     parts-cause DiskFault cause = tt
-    parts-cause NoMemory cause = tt
+    parts-cause NoMemory cause = λ tells.
+        prepared-start d worker workers old mid tells (prepared tells)
+
+    -- the floor is that of the disk that was handed in
+    pub parts-floor : (floor : ℕ) → (IsTrue d.tells → IsFloor (heads_at all_classes (d.seen mid)) floor)
+        → IsTrue d.tells → IsFloor (heads_at all_classes (d.seen old)) floor
+    parts-floor floor is tells = subst (λ heads. IsFloor heads floor)
+        (same_heads (d.seen mid) (d.seen old)
+        (prepared-slabs d worker workers old mid tells (prepared tells))) (is tells)
+
+    -- what was written to can be used
+    pub parts-written : OnlyReads d mid new
+        ⊎ (IsTrue d.tells → AreBounded (d.seen mid) × HasStampsLeft (d.seen mid))
+        → IsUntouched d old new ⊎ (IsTrue d.tells → IsUsable (d.seen old) worker workers)
+    parts-written (inl reads) = elim (cases_Bool d.tells) [
+      | inl yes_tells ↦ elim (prepared yes_tells) [
+        | inl was ↦ inl (record {
+          seen = λ again. reads.seen again ∙ was.0.seen again;
+          crash = λ f p x left. was.0.crash f p x (reads.crash.no_more f p x left);
+        })
+        | inr made ↦ inr (λ tells. usable-new (d.seen old) worker workers below limit made.0)
+      ]
+      | inr not_tells ↦ inr (λ tells. absurd (false≢true (sym not_tells ∙ tells)))
+    ]
+    parts-written (inr left) = inr (λ tells. record {
+      opens = prepared-opens d worker workers old mid tells (prepared tells) below limit
+          (left tells).0;
+      left = record {
+        floor = (left tells).1.floor;
+        floor_is = parts-floor (left tells).1.floor (λ _. (left tells).1.floor_is) tells;
+        spare = (left tells).1.spare;
+      };
+    })
 
   -- a disk that was made a store isn't refused before anything is written
   not_made : (fault : OpenFault) → IsTrue d.tells → IsSpared fault
@@ -172,4 +231,4 @@ prepare-cause tells first worker workers NotAStore cause = cause
 prepare-cause tells first worker workers (OtherStore a b x y) cause = cause
 prepare-cause tells first worker workers (StampsSpent stamp) cause = absurd cause
 prepare-cause tells first worker workers DiskFault cause = cause
-prepare-cause tells first worker workers NoMemory cause = tt
+prepare-cause tells first worker workers NoMemory cause = cause

@@ -1,11 +1,11 @@
 -- Why a disk is refused, and which refusals leave it as it was.
-use Rattle.std.specs.Prelude.{◌≡◌, ◌≢◌, ◌⊎◌, ℕ, ◌-◌, ◌^◌, ◌≤◌, List, IsTrue, ⊤}
+use Rattle.std.specs.Prelude.{◌≡◌, ◌≢◌, ◌⊎◌, ℕ, ◌-◌, ◌^◌, ◌<◌, ◌≤◌, List, IsTrue, ⊤}
 use Rattle.kv_base.specs.Crash.{NoMore}
 use Rattle.kv_base.specs.Image.{Image, zero_page}
 use Rattle.kv_model.specs.Layout.{all_classes}
 use Rattle.kv_model.specs.Reading.{heads_at, IsFloor}
-use Rattle.kv_model.specs.Head.{IsHead}
-use Rattle.kv_model.specs.Recovery.{OpensAs, most_pages}
+use Rattle.kv_model.specs.Head.{IsHead, head_page}
+use Rattle.kv_model.specs.Recovery.{OpensAs, IsNew, most_pages}
 use Rattle.kv_disk.specs.declared.disk.Disk.{Ghosts}
 use Rattle.kv_recover.specs.Pass.{IsPast}
 use Rattle.kv_recover.specs.declared.fault.OpenFault.{OpenFault}
@@ -20,6 +20,15 @@ HasReadCause no_store (OtherStore a b c d) = ⊥
 HasReadCause no_store (StampsSpent stamp) = ⊥
 HasReadCause no_store DiskFault = ⊤
 HasReadCause no_store NoMemory = ⊤
+
+-- the refusal of a call that reads and takes no memory has its cause: a disk that is no store, or a
+-- failed call of the disk
+abbrev pub HasCheckCause : Type 0 → OpenFault → Type 0
+HasCheckCause no_store NotAStore = no_store
+HasCheckCause no_store (OtherStore a b c d) = ⊥
+HasCheckCause no_store (StampsSpent stamp) = ⊥
+HasCheckCause no_store DiskFault = ⊤
+HasCheckCause no_store NoMemory = ⊥
 
 -- no slab has a byte other than zero past the most slots of its class
 abbrev pub AreBounded : Image → Type 0
@@ -50,6 +59,21 @@ pub record IsOtherStore (page : List ℕ) (worker workers kept of : ℕ) : Type 
 abbrev pub IsNoOthers : List ℕ → ℕ → ℕ → Type 0
 IsNoOthers page worker workers = (a b : ℕ) → IsHead page a b → (a ≡ worker) × (b ≡ workers)
 
+-- the disk is new, or its head page is that of this worker of so many
+abbrev pub IsOwn : Image → ℕ → ℕ → Type 0
+IsOwn image worker workers = IsNew image ⊎ (image 0 0 ≡ head_page worker workers)
+
+-- stamps are left above the floor
+pub record HasStampsLeft (image : Image) : Type 0 where
+  pub floor : ℕ
+  pub floor_is : IsFloor (heads_at all_classes image) floor
+  pub spare : floor < 2 ^ 62 - 1
+
+-- the image opens as this worker's, and stamps are left
+pub record IsUsable (image : Image) (worker workers : ℕ) : Type 0 where
+  pub opens : OpensAs all_classes image worker workers
+  pub left : HasStampsLeft image
+
 -- the refusal by a head page has its cause
 abbrev pub HasHeadCause : Type 0 → List ℕ → ℕ → ℕ → OpenFault → Type 0
 HasHeadCause tells page worker workers NotAStore = tells → (page ≢ zero_page)
@@ -59,7 +83,7 @@ HasHeadCause tells page worker workers (OtherStore kept of asked of_asked) =
     × (tells → IsOtherStore page worker workers kept of)
 HasHeadCause tells page worker workers (StampsSpent stamp) = ⊥
 HasHeadCause tells page worker workers DiskFault = ⊤
-HasHeadCause tells page worker workers NoMemory = ⊤
+HasHeadCause tells page worker workers NoMemory = ⊥
 
 -- the refusal of a disk before its slabs are read has its cause
 abbrev pub HasMakeCause : Type 0 → Image → ℕ → ℕ → OpenFault → Type 0
@@ -70,7 +94,7 @@ HasMakeCause tells first worker workers (OtherStore kept of asked of_asked) =
     × (tells → IsOtherStore (first 0 0) worker workers kept of)
 HasMakeCause tells first worker workers (StampsSpent stamp) = ⊥
 HasMakeCause tells first worker workers DiskFault = ⊤
-HasMakeCause tells first worker workers NoMemory = ⊤
+HasMakeCause tells first worker workers NoMemory = tells → IsOwn first worker workers
 
 -- the refusal of opening the slabs of a disk, which tells or not what it reads, has its cause
 abbrev pub HasSlabCause : Type 0 → Image → OpenFault → Type 0
@@ -100,7 +124,7 @@ HasOpenCause tells first worker workers (StampsSpent stamp) = (2 ^ 62 - 1 ≤ st
     × (tells → IsFloor (heads_at all_classes first) stamp
     × OpensAs all_classes first worker workers)
 HasOpenCause tells first worker workers DiskFault = ⊤
-HasOpenCause tells first worker workers NoMemory = ⊤
+HasOpenCause tells first worker workers NoMemory = tells → IsOwn first worker workers
 
 -- the disk reads as before, and a crash leaves no more than it could before
 pub record IsUntouched {D : Type 0} (d : Ghosts D) (old new : D) : Type 0 where

@@ -1,5 +1,5 @@
 -- A store that was opened, and a disk that was refused, to who called.
-use Rattle.std.specs.Prelude.{◌≡◌, ℕ, ◌-◌, ◌^◌, ◌<◌, ◌≤◌, List, length, None, Some, slice_get}
+use Rattle.std.specs.Prelude.{◌≡◌, ◌⊎◌, ℕ, ◌-◌, ◌^◌, ◌<◌, ◌≤◌, List, length, None, Some, slice_get}
 use Rattle.std.specs.Prelude.{false, IsTrue}
 use Rattle.std.specs.FinMap as finite
 use Rattle.kv_base.specs.Crash.{Only, LeavesOnly}
@@ -15,7 +15,7 @@ use Rattle.kv_model.specs.Recovery.{OpensAs}
 use Rattle.kv_slab.specs.View.{View}
 use Rattle.kv_slab.specs.declared.room.Room.{Room}
 use Rattle.kv_recover.specs.declared.fault.OpenFault.{OpenFault}
-use Rattle.kv_recover.specs.Causes.{HasOpenCause, IsSpared, IsUntouched}
+use Rattle.kv_recover.specs.Causes.{HasOpenCause, IsSpared, IsUntouched, IsUsable}
 use Rattle.kv_recover.specs.Faults.{faults_after}
 use Rattle.kv_recover.specs.Found.{HoldsKept}
 use Rattle.kv_recover.specs.Opened.{KeepsStore, LeftOrKept, IsOpenedStore, HasClassList}
@@ -44,6 +44,7 @@ pub record HasOpened {D I : Type 0} (d : disks.Ghosts D) (i : indexes.Ghosts I) 
   pub stamps : (key : List ℕ) (entry : Entry)
       → finite.get (i.entries store.index) key ≡ Some entry → entry.stamp ≤ floor
   pub opens : IsTrue d.tells → OpensAs all_classes (d.seen old) worker workers
+  pub floor_was : IsTrue d.tells → IsFloor (heads_at all_classes (d.seen old)) floor
   pub holds : IsTrue d.tells → HoldsKept (i.entries store.index)
       (slot_at all_classes (d.seen store.disk.disk)) worker workers
   pub floor_is : IsTrue d.tells → IsFloor (heads_at all_classes (d.seen store.disk.disk)) floor
@@ -65,5 +66,7 @@ pub record HasRefused {D : Type 0} (d : disks.Ghosts D) (old : D) (worker worker
   pub cause : HasOpenCause (IsTrue d.tells) (d.seen old) worker workers fault
   pub counted : d.faults new ≡ faults_after (d.faults old) fault
   pub spared : IsSpared fault → IsUntouched d old new
+  pub written : IsUntouched d old new
+      ⊎ (IsTrue d.tells → IsUsable (d.seen old) worker workers)
   pub any_moment : LeavesOnly (d.calls old) (d.calls new) (d.leaves old) (d.leaves new)
       (LeftOrKept d old worker workers)

@@ -8,7 +8,7 @@ ghost use Rattle.std.specs.FinMap as finite;
 ghost use Rattle.kv_recover.specs.Placed.{HasCounts, ArePlaced, with_end};
 ghost use Rattle.kv_recover.specs.Pass.{HasFound, HasFoundBelow, IsPast, FindsClass, FindsBelow};
 ghost use Rattle.kv_disk.specs.Steps.{OnlyReads};
-ghost use Rattle.kv_recover.specs.Causes.{HasReadCause};
+ghost use Rattle.kv_recover.specs.Causes.{HasReadCause, HasCheckCause};
 ghost use Rattle.kv_recover.specs.Faults.{AreFaultsCounted};
 
 use crate::fault::OpenFault;
@@ -116,7 +116,7 @@ pub fn check_blanks<D: Disk>(
     ensures reads { OnlyReads ⟦<D as Disk>⟧ disk.old disk.new }
     ensures ok { IsTrue D.tells → OnOk result ((page : ℕ) → first ≤ page → page < pages
         → D.seen disk.old class page ≡ zero_page) }
-    ensures cause { IfErr result (HasReadCause (IsTrue D.tells → (page : ℕ) × (first ≤ page)
+    ensures cause { IfErr result (HasCheckCause (IsTrue D.tells → (page : ℕ) × (first ≤ page)
         × (D.seen disk.old class page ≢ zero_page))) }
     ensures counted { AreFaultsCounted (D.faults disk.old) (D.faults disk.new) result }
 {

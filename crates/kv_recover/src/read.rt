@@ -3,7 +3,7 @@ ghost use Rattle.std.specs.Prelude.{length};
 ghost use Rattle.kv_base.specs.Fault.{Counted};
 ghost use Rattle.kv_base.specs.Image.{zero_page};
 ghost use Rattle.kv_disk.specs.Steps.{OnlyReads};
-ghost use Rattle.kv_recover.specs.Causes.{HasReadCause};
+ghost use Rattle.kv_recover.specs.Causes.{HasCheckCause};
 ghost use Rattle.kv_recover.specs.Faults.{AreFaultsCounted};
 
 use crate::fault::OpenFault;
@@ -45,7 +45,7 @@ pub fn check_blank<D: Disk>(disk: &mut D, file: u8, page: u32) -> Result<(), Ope
     requires page { page < 2 ^ 32 - 1 }
     ensures reads { OnlyReads ⟦<D as Disk>⟧ disk.old disk.new }
     ensures ok { IsTrue D.tells → OnOk result (D.seen disk.old file page ≡ zero_page) }
-    ensures cause { IfErr result (HasReadCause (IsTrue D.tells
+    ensures cause { IfErr result (HasCheckCause (IsTrue D.tells
         → D.seen disk.old file page ≢ zero_page)) }
     ensures counted { AreFaultsCounted (D.faults disk.old) (D.faults disk.new) result }
 {

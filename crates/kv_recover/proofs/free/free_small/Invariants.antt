@@ -1,5 +1,5 @@
 -- The classes so far are freed.
-use Rattle.std.proofs.Common.{length, ◌≡◌, ◌+◌, ◌≤◌, length, get_or}
+use Rattle.std.proofs.Common.{length, ◌≡◌, ◌+◌, length, get_or}
 use Rattle.kv_base.specs.Image.{Image}
 use Rattle.kv_base.specs.Crash.{LeavesOnly}
 use Rattle.kv_recover.specs.Free.{MayBeFreed, HasFreedBelow, FreesBelow}

@@ -1,10 +1,11 @@
 -- The disk is prepared, and then its slabs are opened.
-use Rattle.std.proofs.Common.{sym, subst, IsTrue}
+use Rattle.std.proofs.Common.{inl, inr, sym, subst, IsTrue}
 use Rattle.kv_recover.specs.Causes.{HasOpenCause, IsSpared}
-use Rattle.kv_recover.proofs.CauseLemmas.{handed}
+use Rattle.kv_recover.proofs.CauseLemmas.{handed, on_err}
 use Rattle.kv_recover.proofs.PrepareSteps.{prepared-headed}
 use Rattle.kv_recover.proofs.PartsSteps.{parts-moments, parts-same, parts-opens, parts-cause}
-use Rattle.kv_recover.proofs.PartsSteps.{parts-spared, prepare-cause}
+use Rattle.kv_recover.proofs.PartsSteps.{parts-spared, parts-written, parts-floor, usable-new}
+use Rattle.kv_recover.proofs.PartsSteps.{prepare-cause}
 use Rattle.kv_recover.proofs.open.open_parts.Goals as goal
 
 pub open_slabs-requires-clause-headed : goal.open_slabs-requires-clause-headed
@@ -59,3 +60,23 @@ returns-clause-opens g c = parts-opens g.D.Disk g.met.D.Disk.told c.args.share.w
     c.prepare.new.disk
     c.open_slabs.new.disk c.in_ok-prepare.ensures.prepared c.requires.below c.requires.limit _ _ _ _
     c.in_ok-parts.ensures.same c.in_ok-parts.ensures.opened
+
+pub returns-in_err-prepare-clause-written : goal.returns-in_err-prepare-clause-written
+returns-in_err-prepare-clause-written g c = on_err c.from_residual.result _
+    (elim c.in_err-prepare.ensures.written [
+      | inl same ↦ inl same
+      | inr new ↦ inr (λ tells. usable-new (g.D.Disk.seen c.args.disk.now) c.args.share.worker
+          c.args.share.workers c.requires.below c.requires.limit (new tells))
+    ])
+
+pub returns-in_err-parts-clause-written : goal.returns-in_err-parts-clause-written
+returns-in_err-parts-clause-written g c = on_err c.from_residual-in_err-parts.result _
+    (parts-written g.D.Disk g.met.D.Disk.told c.args.share.worker c.args.share.workers
+    c.args.disk.now c.prepare.new.disk c.open_slabs.new.disk c.in_ok-prepare.ensures.prepared
+    c.requires.below c.requires.limit c.in_err-parts.ensures.written)
+
+pub returns-clause-floor_was : goal.returns-clause-floor_was
+returns-clause-floor_was g c = parts-floor g.D.Disk g.met.D.Disk.told c.args.share.worker
+    c.args.share.workers c.args.disk.now c.prepare.new.disk c.open_slabs.new.disk
+    c.in_ok-prepare.ensures.prepared c.requires.below c.requires.limit c.in_ok-parts.parts.floor
+    c.in_ok-parts.ensures.floor_was

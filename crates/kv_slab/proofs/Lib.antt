@@ -25,3 +25,4 @@ pub mod KeptLemmas
 pub mod OrderLemmas
 pub mod FaultLemmas
 pub mod FitLemmas
+pub mod BatchLemmas

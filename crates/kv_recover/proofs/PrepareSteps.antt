@@ -1,6 +1,6 @@
 -- The steps before the slabs of a disk are opened, in the images that a crash may leave.
 use Rattle.std.proofs.Common.{◌≡◌, inl, inr, ℕ, ◌<◌, ◌≤◌, List, refl, sym, ap, ◌∙◌, subst, arith}
-use Rattle.std.proofs.Common.{IsTrue}
+use Rattle.std.proofs.Common.{Bool, true, false, IsTrue}
 use Rattle.std.proofs.lemmas.Bool.{cases_lt, false≢true}
 use Rattle.kv_base.specs.Image.{Image, zero_page, with_page}
 use Rattle.kv_base.specs.Crash.{Only, NoMore, Advances, LeavesOnly}
@@ -15,7 +15,7 @@ use Rattle.kv_model.specs.Reading.{slot_at, heads_at, has_class, IsFloor}
 use Rattle.kv_model.specs.Recovery.{OpensAs, IsNew}
 use Rattle.kv_slot.proofs.HeadLemmas.{worker_in, workers_in, zeros_no_head}
 use Rattle.kv_recover.specs.Causes.{AreBounded, IsNoOthers, IsUntouched, IsOwn}
-use Rattle.kv_recover.specs.HeadCheck.{AreBlank, IsMade, IsMadeNew}
+use Rattle.kv_recover.specs.HeadCheck.{IsGoodHead, AreBlank, IsMade, IsMadeNew}
 use Rattle.kv_recover.specs.Freed.{KeepsSame}
 use Rattle.kv_recover.specs.Opened.{KeepsStore, KeepsSlabs, LeftOrKept, IsPrepared}
 use Rattle.kv_recover.proofs.FreeSteps.{Told}
@@ -65,6 +65,17 @@ same_head page a b worker workers head own = (
   sym (worker_in page a b head) ∙ worker_in page worker workers own,
   sym (workers_in page a b head) ∙ workers_in page worker workers own,
 )
+
+-- the head page of a new disk, and that of another
+pub good-zero : (fresh : Bool) (page : List ℕ) (worker workers : ℕ) → fresh ≡ true
+    → IsGoodHead fresh page worker workers → page ≡ zero_page
+good-zero fresh page worker workers is good =
+    subst (λ b. IsGoodHead b page worker workers) is good
+
+pub good-head : (fresh : Bool) (page : List ℕ) (worker workers : ℕ) → fresh ≡ false
+    → IsGoodHead fresh page worker workers → page ≡ head_page worker workers
+good-head fresh page worker workers is good =
+    subst (λ b. IsGoodHead b page worker workers) is good
 
 -- the store is the same as itself
 pub store-self : (first : Image) (worker workers : ℕ) → KeepsStore first worker workers first

@@ -12,8 +12,8 @@ use Rattle.kv_recover.specs.declared.fault.OpenFault.{OpenFault}
 use Rattle.kv_recover.specs.declared.fault.OpenFault.TheVariants.{NotAStore, OtherStore, StampsSpent}
 use Rattle.kv_recover.specs.declared.fault.OpenFault.TheVariants.{DiskFault, NoMemory}
 
--- the refusal of a call that only reads has its cause: a disk that is no store, a failed call of the
--- disk, or want of memory
+-- the refusal of a call that only reads has its cause: a disk that is no store, a failed call of
+-- the disk, or want of memory
 abbrev pub HasReadCause : Type 0 → OpenFault → Type 0
 HasReadCause no_store NotAStore = no_store
 HasReadCause no_store (OtherStore a b c d) = ⊥
@@ -21,8 +21,8 @@ HasReadCause no_store (StampsSpent stamp) = ⊥
 HasReadCause no_store DiskFault = ⊤
 HasReadCause no_store NoMemory = ⊤
 
--- the refusal of a call that reads and takes no memory has its cause: a disk that is no store, or a
--- failed call of the disk
+-- the refusal of a call that reads and takes no memory has its cause: a disk that is no store, or
+-- a failed call of the disk
 abbrev pub HasCheckCause : Type 0 → OpenFault → Type 0
 HasCheckCause no_store NotAStore = no_store
 HasCheckCause no_store (OtherStore a b c d) = ⊥

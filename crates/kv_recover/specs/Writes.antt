@@ -14,9 +14,9 @@ use Rattle.kv_model.specs.Reading.{slot_at}
 use Rattle.kv_model.specs.Recovery.{AreKept, KeepsEach}
 use Rattle.kv_slab.specs.View.{View, store_map}
 
--- the writes stand for the store's items, one for each key of its index, with the stamp of its entry,
--- which isn't above the floor; on a disk that tells what it reads they are the items that were kept on
--- the disk that was handed in, the store has their values, and each entry the class of its item
+-- the writes stand for the store's items: one for each key of its index, with the stamp of its
+-- entry, none above the floor; on a disk that tells what it reads they are the items that were kept
+-- on the disk that was handed in, the store has their values, and each entry the class of its item
 pub record HasWrites {D I : Type 0} (d : disks.Ghosts D) (i : indexes.Ghosts I) (old : D)
     (worker workers : ℕ) (store : View D I) (floor : ℕ) : Type 0 where
   pub writes : List Write

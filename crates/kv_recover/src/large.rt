@@ -12,7 +12,8 @@ ghost use Rattle.kv_slot.specs.Views.{read_front};
 ghost use Rattle.kv_recover.specs.Causes.{HasReadCause};
 ghost use Rattle.kv_recover.specs.Faults.{AreFaultsCounted};
 ghost use Rattle.kv_recover.specs.Found.{with_slot};
-ghost use Rattle.kv_recover.specs.Large.{IsLater, slot_from, HasFoundLarge, FindsLargeClass, IsWholeSlot};
+ghost use Rattle.kv_recover.specs.Large.{IsLater, slot_from, IsWholeSlot, HasFoundLarge};
+ghost use Rattle.kv_recover.specs.Large.{FindsLargeClass};
 ghost use Rattle.kv_recover.specs.Pass.{IsPast};
 ghost use Rattle.kv_recover.specs.Placed.{HasCounts, ArePlaced, with_end};
 
@@ -202,7 +203,8 @@ fn find_large_at<D: Disk, I: Index>(
     ensures counted { OnOk result (HasCounts (I.entries items.new.index) items.new.counts) }
     ensures cause { IfErr result (HasReadCause ⊥) }
     ensures faults { AreFaultsCounted (D.faults disk.old) (D.faults disk.new) result }
-    ensures whole { IsTrue D.tells → OnOk result (IsWholeSlot (D.seen disk.old) place.class place.slot) }
+    ensures whole { IsTrue D.tells → OnOk result (IsWholeSlot (D.seen disk.old) place.class
+        place.slot) }
 {
     let (first, _) = spot(place);
     let count = pages_in_slot(place.class);

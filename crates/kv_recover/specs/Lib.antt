@@ -10,7 +10,9 @@ pub mod Lists
 pub mod Opened
 pub mod HeadCheck
 pub mod Causes
+pub mod Faults
 pub mod Listed
+pub mod Writes
 pub mod Store
 pub mod Kinds
 pub mod Survey

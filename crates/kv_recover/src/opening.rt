@@ -29,8 +29,9 @@ pub struct Opened<D: Disk, I: Index> {
 /// what is there; makes a new disk a store; keeps of each key the item with the greatest stamp, and
 /// of equal stamps the one in the least place; frees every other slot; and makes that durable.
 ///
-/// A refusal hands the disk back. `DiskFault` shows in its count of faults. `NotAStore`,
-/// `OtherStore` and `StampsSpent` leave it as it was.
+/// A refusal hands the disk back. `DiskFault` counts one fault, any other none. `NotAStore`,
+/// `OtherStore` and `StampsSpent` leave it as it was, and come in this order: what the head page
+/// says, `NotAStore` by other pages, `StampsSpent`. `NoMemory` may come once the head page is good.
 pub fn open_store<D: Disk + Drop, I: Index + Drop>(
     alloc: Global,
     disk: D,

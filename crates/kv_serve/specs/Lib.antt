@@ -1,12 +1,3 @@
-pub mod Transcript
-pub mod Pages
-pub mod Causes
-pub mod Placed
-pub mod Content
-pub mod Store
-pub mod Open
-pub mod Session
-pub mod Run
 pub mod Answers
+pub mod Begins
 pub mod Words
-pub mod Serve

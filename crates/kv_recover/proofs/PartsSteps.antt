@@ -1,5 +1,6 @@
 -- The slabs of a prepared disk are opened.
-use Rattle.std.proofs.Common.{◌≡◌, inl, inr, ℕ, ◌<◌, ◌≤◌, List, [], ◌∷◌, sym}
+use Rattle.std.proofs.Common.{◌≡◌, ◌⊎◌, inl, inr, ℕ, ◌<◌, ◌≤◌, List, [], ◌∷◌, refl, sym, lit<}
+use Rattle.std.proofs.lemmas.Bool.{cases_Bool, false≢true}
 use Rattle.std.proofs.Common.{◌∙◌, subst, arith, IsTrue, zero, suc, get_or, length}
 use Rattle.std.specs.List.{AllByRecursion}
 use Rattle.kv_base.specs.Image.{Image}
@@ -11,15 +12,14 @@ use Rattle.kv_index.specs.Entries.{Entries}
 use Rattle.kv_free.specs.FreeList.{Tail}
 use Rattle.kv_model.specs.Layout.{all_classes, pages_in_slot}
 use Rattle.kv_model.specs.Reading.{heads_at, large_slot, small_slot, page_of, IsFloor}
-use Rattle.kv_model.specs.Recovery.{OpensAs}
+use Rattle.kv_model.specs.Recovery.{OpensAs, IsNew}
 use Rattle.kv_recover.specs.declared.fault.OpenFault.{OpenFault}
 use Rattle.kv_recover.specs.declared.fault.OpenFault.TheVariants.{NotAStore, OtherStore, StampsSpent}
 use Rattle.kv_recover.specs.declared.fault.OpenFault.TheVariants.{DiskFault, NoMemory}
 use Rattle.kv_recover.specs.Causes.{HasSlabCause, HasMakeCause, HasOpenCause}
-use Rattle.kv_recover.specs.Causes.{IsSpared, IsUntouched}
+use Rattle.kv_recover.specs.Causes.{IsSpared, IsUntouched, AreBounded, HasStampsLeft, IsUsable}
 use Rattle.kv_recover.specs.HeadCheck.{AreBlank}
 use Rattle.kv_recover.specs.Opened.{KeepsStore, KeepsSlabs, IsOpenedStore, LeftOrKept, IsPrepared}
-use Rattle.kv_recover.proofs.CauseLemmas.{rose-since}
 use Rattle.kv_recover.proofs.FreeSteps.{Told}
 use Rattle.kv_recover.proofs.OpenSteps.{weaker-told}
 use Rattle.kv_recover.proofs.OpenedLemmas.{class_cases, heads_none}
@@ -28,6 +28,7 @@ use Rattle.kv_recover.proofs.SlabLemmas.{slot-zeros, stamp_zeros}
 use Rattle.kv_recover.proofs.LargeLemmas.{heads_at-large, heads_zero_pages, all_range}
 use Rattle.kv_recover.proofs.PrepareSteps.{same_heads, store-slabs, prepared-headed, prepared-keeps}
 use Rattle.kv_recover.proofs.PrepareSteps.{prepared-slabs, prepared-opens, prepared-own}
+use Rattle.kv_recover.proofs.PrepareSteps.{prepared-start, class_within}
 
 -- all numbers at the heads of blank slabs are 0
 blank-heads : (image : Image) → AreBlank image → (c s : ℕ)
@@ -48,6 +49,10 @@ blank-heads image blank c s = elim (class_cases c) [
   ]
 ]
 
+all-none : (xs : List ℕ) → AllByRecursion (λ n. n ≡ 0) xs → AllByRecursion (λ n. n ≤ 0) xs
+all-none [] all = tt
+all-none (x ∷ xs) all = (omega (arith, all.0), all-none xs all.1)
+
 all_zero_at : (xs : List ℕ) (x k : ℕ) → AllByRecursion (λ n. n ≡ 0) xs → k < length xs
     → get_or xs k x ≡ 0
 all_zero_at [] x k all within = absurd (omega arith)
@@ -63,6 +68,27 @@ blank-floor image floor blank is = elim is.one [
       ∙ all_zero_at (heads_at all_classes image some.0 some.1) floor some.2.0
       (blank-heads image blank some.0 some.1) some.2.1
 ]
+
+-- a new disk can be used
+pub usable-new : (image : Image) (worker workers : ℕ) → worker < workers → workers ≤ 16
+    → IsNew image → IsUsable image worker workers
+usable-new image worker workers below limit new = record {
+  opens = record {
+    worker_is = record { below = below; limit = limit };
+    head = inl new;
+    bounded = λ class page has from.
+        let within = class_within class has in new.slabs class page within.0 within.1;
+  };
+  left = record {
+    floor = 0;
+    floor_is = record {
+      above = λ class slot. all-none (heads_at all_classes image class slot)
+          (blank-heads image new.slabs class slot);
+      one = inl refl;
+    };
+    spare = lit< tt;
+  };
+}
 
 module _ {D : Type 0} (d : Ghosts D) (told : Told d) (worker workers : ℕ) (old mid new : D)
     (prepared : IsTrue d.tells → IsPrepared d worker workers old mid) where
@@ -102,10 +128,9 @@ module _ {D : Type 0} (d : Ghosts D) (told : Told d) (worker workers : ℕ) (old
         ∙ (opened tells).bounded class page low high from)
 
     -- each refusal has its cause
-    pub parts-cause : (fault : OpenFault) (before between after : ℕ) → before ≤ between
-        → HasSlabCause (IsTrue d.tells) (d.seen mid) between after fault
-        → HasOpenCause (IsTrue d.tells) (d.seen old) worker workers before after fault
-    parts-cause NotAStore before between after up cause = λ tells.
+    pub parts-cause : (fault : OpenFault) → HasSlabCause (IsTrue d.tells) (d.seen mid) fault
+        → HasOpenCause (IsTrue d.tells) (d.seen old) worker workers fault
+    parts-cause NotAStore cause = λ tells.
         let past = cause tells in (
           inr (inr (
             past.0,
@@ -120,8 +145,8 @@ module _ {D : Type 0} (d : Ghosts D) (told : Told d) (worker workers : ℕ) (old
           )),
           prepared-own d worker workers old mid tells (prepared tells) below limit,
         )
-    parts-cause (OtherStore a b x y) before between after up cause = absurd cause
-    parts-cause (StampsSpent stamp) before between after up cause = (
+    parts-cause (OtherStore a b x y) cause = absurd cause
+    parts-cause (StampsSpent stamp) cause = (
       cause.0,
       (λ tells. (
         subst (λ heads. IsFloor heads stamp) (same_heads (d.seen mid) (d.seen old)
@@ -130,23 +155,55 @@ module _ {D : Type 0} (d : Ghosts D) (told : Told d) (worker workers : ℕ) (old
             (cause.1 tells).1,
       )),
     )
-    parts-cause DiskFault before between after up cause = rose-since before between after up cause
-    parts-cause NoMemory before between after up cause = tt
+    parts-cause DiskFault cause = tt
+    parts-cause NoMemory cause = λ tells.
+        prepared-start d worker workers old mid tells (prepared tells)
+
+    -- the floor is that of the disk that was handed in
+    pub parts-floor : (floor : ℕ) → (IsTrue d.tells → IsFloor (heads_at all_classes (d.seen mid)) floor)
+        → IsTrue d.tells → IsFloor (heads_at all_classes (d.seen old)) floor
+    parts-floor floor is tells = subst (λ heads. IsFloor heads floor)
+        (same_heads (d.seen mid) (d.seen old)
+        (prepared-slabs d worker workers old mid tells (prepared tells))) (is tells)
+
+    -- what was written to can be used
+    pub parts-written : OnlyReads d mid new
+        ⊎ (IsTrue d.tells → AreBounded (d.seen mid) × HasStampsLeft (d.seen mid))
+        → IsUntouched d old new ⊎ (IsTrue d.tells → IsUsable (d.seen old) worker workers)
+    parts-written (inl reads) = elim (cases_Bool d.tells) [
+      | inl yes_tells ↦ elim (prepared yes_tells) [
+        | inl was ↦ inl (record {
+          seen = λ again. reads.seen again ∙ was.0.seen again;
+          crash = λ f p x left. was.0.crash f p x (reads.crash.no_more f p x left);
+        })
+        | inr made ↦ inr (λ tells. usable-new (d.seen old) worker workers below limit made.0)
+      ]
+      | inr not_tells ↦ inr (λ tells. absurd (false≢true (sym not_tells ∙ tells)))
+    ]
+    parts-written (inr left) = inr (λ tells. record {
+      opens = prepared-opens d worker workers old mid tells (prepared tells) below limit
+          (left tells).0;
+      left = record {
+        floor = (left tells).1.floor;
+        floor_is = parts-floor (left tells).1.floor (λ _. (left tells).1.floor_is) tells;
+        spare = (left tells).1.spare;
+      };
+    })
 
   -- a disk that was made a store isn't refused before anything is written
-  not_made : (fault : OpenFault) (between after : ℕ) → IsTrue d.tells → IsSpared fault
-      → HasSlabCause (IsTrue d.tells) (d.seen mid) between after fault
+  not_made : (fault : OpenFault) → IsTrue d.tells → IsSpared fault
+      → HasSlabCause (IsTrue d.tells) (d.seen mid) fault
       → AreBlank (d.seen mid) → ⊥
-  not_made NotAStore between after tells spared cause blank =
+  not_made NotAStore tells spared cause blank =
       let past = cause tells in past.3.2 (blank past.0 past.3.0 past.1 past.2)
-  not_made (OtherStore a b x y) between after tells spared cause blank = absurd cause
-  not_made (StampsSpent stamp) between after tells spared cause blank =
+  not_made (OtherStore a b x y) tells spared cause blank = absurd cause
+  not_made (StampsSpent stamp) tells spared cause blank =
       let none = blank-floor (d.seen mid) stamp blank (cause.1 tells).0 in omega (arith, cause.0)
-  not_made DiskFault between after tells spared cause blank = absurd spared
-  not_made NoMemory between after tells spared cause blank = absurd spared
+  not_made DiskFault tells spared cause blank = absurd spared
+  not_made NoMemory tells spared cause blank = absurd spared
 
-  module _ (fault : OpenFault) (between after : ℕ) (spared : IsSpared fault)
-      (cause : HasSlabCause (IsTrue d.tells) (d.seen mid) between after fault)
+  module _ (fault : OpenFault) (spared : IsSpared fault)
+      (cause : HasSlabCause (IsTrue d.tells) (d.seen mid) fault)
       (reads : OnlyReads d mid new) where
     untouched_by : IsTrue d.tells → IsUntouched d old new
     untouched_by tells = elim (prepared tells) [
@@ -154,7 +211,7 @@ module _ {D : Type 0} (d : Ghosts D) (told : Told d) (worker workers : ℕ) (old
         seen = λ again. reads.seen again ∙ was.0.seen again;
         crash = λ f p x left. was.0.crash f p x (reads.crash.no_more f p x left);
       }
-      | inr made ↦ absurd (not_made fault between after tells spared cause
+      | inr made ↦ absurd (not_made fault tells spared cause
           (λ class page low high. prepared-slabs d worker workers old mid tells (prepared tells)
           class page low ∙ made.0.slabs class page low high))
     ]
@@ -167,11 +224,11 @@ module _ {D : Type 0} (d : Ghosts D) (told : Told d) (worker workers : ℕ) (old
     }
 
 -- a refusal before the slabs are read has its cause
-pub prepare-cause : (tells : Type 0) (first : Image) (worker workers before after : ℕ)
-    (fault : OpenFault) → HasMakeCause tells first worker workers before after fault
-    → HasOpenCause tells first worker workers before after fault
-prepare-cause tells first worker workers before after NotAStore cause = cause
-prepare-cause tells first worker workers before after (OtherStore a b x y) cause = cause
-prepare-cause tells first worker workers before after (StampsSpent stamp) cause = absurd cause
-prepare-cause tells first worker workers before after DiskFault cause = cause
-prepare-cause tells first worker workers before after NoMemory cause = tt
+pub prepare-cause : (tells : Type 0) (first : Image) (worker workers : ℕ)
+    (fault : OpenFault) → HasMakeCause tells first worker workers fault
+    → HasOpenCause tells first worker workers fault
+prepare-cause tells first worker workers NotAStore cause = cause
+prepare-cause tells first worker workers (OtherStore a b x y) cause = cause
+prepare-cause tells first worker workers (StampsSpent stamp) cause = absurd cause
+prepare-cause tells first worker workers DiskFault cause = cause
+prepare-cause tells first worker workers NoMemory cause = cause

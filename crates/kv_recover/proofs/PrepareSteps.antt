@@ -14,7 +14,7 @@ use Rattle.kv_model.specs.Layout.{all_classes}
 use Rattle.kv_model.specs.Reading.{slot_at, heads_at, has_class, IsFloor}
 use Rattle.kv_model.specs.Recovery.{OpensAs, IsNew}
 use Rattle.kv_slot.proofs.HeadLemmas.{worker_in, workers_in, zeros_no_head}
-use Rattle.kv_recover.specs.Causes.{AreBounded, IsNoOthers}
+use Rattle.kv_recover.specs.Causes.{AreBounded, IsNoOthers, IsUntouched, IsOwn}
 use Rattle.kv_recover.specs.HeadCheck.{AreBlank, IsMade, IsMadeNew}
 use Rattle.kv_recover.specs.Freed.{KeepsSame}
 use Rattle.kv_recover.specs.Opened.{KeepsStore, KeepsSlabs, LeftOrKept, IsPrepared}
@@ -174,6 +174,14 @@ module _ {D : Type 0} (d : Ghosts D) (told : Told d) (worker workers : ℕ) (old
       (started (d.calls old) (d.leaves old) (LeftOrKept d old worker workers)
       (λ image left. inl left)) past no_more
 
+  -- what is only read after it
+  pub untouched : (IsTrue d.tells → d.seen synced ≡ d.seen old) → OnlyReads d synced read
+      → IsUntouched d old read
+  untouched seen reads = record {
+    seen = λ tells. reads.seen tells ∙ seen tells;
+    crash = λ f p x left. no_more f p x (reads.crash.no_more f p x left);
+  }
+
   module _ (reads : OnlyReads d synced read) where
     -- the head page is read
     pub head-moments : LeavesOnly (d.calls old) (d.calls read) (d.leaves old) (d.leaves read)
@@ -223,10 +231,7 @@ module _ {D : Type 0} (d : Ghosts D) (told : Told d) (worker workers : ℕ) (old
       pub was-store : (IsTrue d.tells → d.seen synced 0 0 ≡ head_page worker workers)
           → IsTrue d.tells → IsPrepared d worker workers old read
       was-store head tells = inl (
-        record {
-          seen = seen_all;
-          crash = λ f p x left. no_more f p x (reads.crash.no_more f p x left);
-        },
+        untouched seen reads,
         ap (λ first. first 0 0) (sym (seen tells)) ∙ head tells,
       )
 
@@ -256,15 +261,18 @@ module _ {D : Type 0} (d : Ghosts D) (worker workers : ℕ) (old mid : D) (tells
         (λ none _. omega arith)
   ]
 
+  pub prepared-start : IsOwn (d.seen old) worker workers
+  prepared-start = elim prepared [
+    | inl was ↦ inr was.1
+    | inr made ↦ inl made.0
+  ]
+
   -- the disk opens where its slabs are within their bounds
   pub prepared-opens : worker < workers → workers ≤ 16 → AreBounded (d.seen mid)
       → OpensAs all_classes (d.seen old) worker workers
   prepared-opens below limit bounded = record {
     worker_is = record { below = below; limit = limit };
-    head = elim prepared [
-      | inl was ↦ inr was.1
-      | inr made ↦ inl made.0
-    ];
+    head = prepared-start;
     bounded = λ class page has from.
         let in_layout = class_within class has in
         sym (prepared-slabs class page in_layout.0) ∙ bounded class page in_layout.0 in_layout.1 from;

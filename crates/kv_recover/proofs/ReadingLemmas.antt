@@ -1,16 +1,15 @@
 -- A disk that is read and not written.
-use Rattle.std.proofs.Common.{◌≡◌, ◌⊎◌, inl, inr, ℕ, ◌^◌, ◌<◌, ◌≤◌, Bool, true, false, List, Some, slice_get, get_or}
+use Rattle.std.proofs.Common.{◌≡◌, inl, inr, ℕ, ◌^◌, ◌<◌, ◌≤◌, Bool, true, false, List, Some, slice_get, get_or}
 use Rattle.std.proofs.Common.{subst, arith}
 use Rattle.std.specs.FinMap as finite
 use Rattle.kv_base.specs.Image.{Image}
 use Rattle.kv_index.specs.Entries.{Entries}
-use Rattle.kv_model.specs.Head.{head_page}
 use Rattle.kv_model.specs.Layout.{all_classes}
 use Rattle.kv_model.specs.Reading.{slot_at}
 use Rattle.kv_model.specs.Recovery.{OpensAs}
 use Rattle.kv_slot.proofs.HeadLemmas.{zeros_no_head}
 use Rattle.kv_recover.specs.declared.entries.Kept.{Kept}
-use Rattle.kv_recover.specs.Causes.{IsNoOthers}
+use Rattle.kv_recover.specs.Causes.{IsNoOthers, IsOwn}
 use Rattle.kv_recover.specs.Found.{HoldsKept}
 use Rattle.kv_recover.specs.HeadCheck.{IsReadable}
 use Rattle.kv_recover.specs.Listed.{AreListed, AreKept, IsSlabPlace, entry_of}
@@ -29,6 +28,12 @@ readable-own false first worker workers below limit head_is a b head =
     same_head (first 0 0) a b worker workers head
     (record { worker_is = record { below = below; limit = limit }; page_is = head_is })
 
+-- it is new, or this worker's
+pub readable-start : (fresh : Bool) (image : Image) (worker workers : ℕ)
+    → IsReadable fresh image worker workers → IsOwn image worker workers
+readable-start true image worker workers new = inl new
+readable-start false image worker workers head = inr head
+
 -- it opens
 pub readable-opens : (fresh : Bool) (first : Image) (worker workers : ℕ) (entries : Entries)
     (floor : ℕ) (ends : List ℕ) → worker < workers → workers ≤ 16
@@ -37,15 +42,11 @@ pub readable-opens : (fresh : Bool) (first : Image) (worker workers : ℕ) (entr
     → OpensAs all_classes first worker workers
 readable-opens fresh first worker workers entries floor ends below limit readable found = record {
   worker_is = record { below = below; limit = limit };
-  head = opens_head fresh readable;
+  head = readable-start fresh first worker workers readable;
   bounded = λ class page has from.
       let within = class_within class has in
       found.bounded class page within.0 (omega (arith, within.1)) from;
-} where
-  opens_head : (b : Bool) → IsReadable b first worker workers
-      → Rattle.kv_model.specs.Recovery.IsNew first ⊎ (first 0 0 ≡ head_page worker workers)
-  opens_head true new = inl new
-  opens_head false head = inr head
+}
 
 -- what is found is kept
 pub found-holds : (first : Image) (worker workers : ℕ) (entries : Entries) (floor : ℕ)

@@ -10,6 +10,7 @@ pub mod Lists
 pub mod Opened
 pub mod HeadCheck
 pub mod Causes
+pub mod Faults
 pub mod Listed
 pub mod Store
 pub mod Kinds

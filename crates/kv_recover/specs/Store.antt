@@ -1,5 +1,5 @@
 -- A store that was opened, and a disk that was refused, to who called.
-use Rattle.std.specs.Prelude.{◌≡◌, ℕ, ◌-◌, ◌^◌, ◌<◌, ◌≤◌, List, length, None, Some, slice_get}
+use Rattle.std.specs.Prelude.{◌≡◌, ◌⊎◌, ℕ, ◌-◌, ◌^◌, ◌<◌, ◌≤◌, List, length, None, Some, slice_get}
 use Rattle.std.specs.Prelude.{false, IsTrue}
 use Rattle.std.specs.FinMap as finite
 use Rattle.kv_base.specs.Crash.{Only, LeavesOnly}
@@ -15,7 +15,8 @@ use Rattle.kv_model.specs.Recovery.{OpensAs}
 use Rattle.kv_slab.specs.View.{View}
 use Rattle.kv_slab.specs.declared.room.Room.{Room}
 use Rattle.kv_recover.specs.declared.fault.OpenFault.{OpenFault}
-use Rattle.kv_recover.specs.Causes.{HasOpenCause, IsSpared, IsUntouched}
+use Rattle.kv_recover.specs.Causes.{HasOpenCause, IsSpared, IsUntouched, IsUsable}
+use Rattle.kv_recover.specs.Faults.{faults_after}
 use Rattle.kv_recover.specs.Found.{HoldsKept}
 use Rattle.kv_recover.specs.Opened.{KeepsStore, LeftOrKept, IsOpenedStore, HasClassList}
 use Rattle.kv_recover.specs.Placed.{HasRooms}
@@ -43,6 +44,7 @@ pub record HasOpened {D I : Type 0} (d : disks.Ghosts D) (i : indexes.Ghosts I) 
   pub stamps : (key : List ℕ) (entry : Entry)
       → finite.get (i.entries store.index) key ≡ Some entry → entry.stamp ≤ floor
   pub opens : IsTrue d.tells → OpensAs all_classes (d.seen old) worker workers
+  pub floor_was : IsTrue d.tells → IsFloor (heads_at all_classes (d.seen old)) floor
   pub holds : IsTrue d.tells → HoldsKept (i.entries store.index)
       (slot_at all_classes (d.seen store.disk.disk)) worker workers
   pub floor_is : IsTrue d.tells → IsFloor (heads_at all_classes (d.seen store.disk.disk)) floor
@@ -55,15 +57,16 @@ pub record HasOpened {D I : Type 0} (d : disks.Ghosts D) (i : indexes.Ghosts I) 
       (d.leaves store.disk.disk (d.calls store.disk.disk))
   pub any_moment : LeavesOnly (d.calls old) (d.calls store.disk.disk) (d.leaves old)
       (d.leaves store.disk.disk) (LeftOrKept d old worker workers)
-  pub later : d.faults old ≤ d.faults store.disk.disk
+  pub calm : d.faults store.disk.disk ≡ d.faults old
 
 -- the disk was refused for this cause: at each moment a crash leaves an image that it could leave at
 -- the beginning, or one that keeps the store; and a refusal before the writes left all as it was
 pub record HasRefused {D : Type 0} (d : disks.Ghosts D) (old : D) (worker workers : ℕ) (new : D)
     (fault : OpenFault) : Type 0 where
-  pub cause : HasOpenCause (IsTrue d.tells) (d.seen old) worker workers (d.faults old)
-      (d.faults new) fault
+  pub cause : HasOpenCause (IsTrue d.tells) (d.seen old) worker workers fault
+  pub counted : d.faults new ≡ faults_after (d.faults old) fault
   pub spared : IsSpared fault → IsUntouched d old new
+  pub written : IsUntouched d old new
+      ⊎ (IsTrue d.tells → IsUsable (d.seen old) worker workers)
   pub any_moment : LeavesOnly (d.calls old) (d.calls new) (d.leaves old) (d.leaves new)
       (LeftOrKept d old worker workers)
-  pub later : d.faults old ≤ d.faults new

@@ -8,7 +8,8 @@ ghost use Rattle.std.specs.FinMap as finite;
 ghost use Rattle.kv_recover.specs.Placed.{HasCounts, ArePlaced, with_end};
 ghost use Rattle.kv_recover.specs.Pass.{HasFound, HasFoundBelow, IsPast, FindsClass, FindsBelow};
 ghost use Rattle.kv_disk.specs.Steps.{OnlyReads};
-ghost use Rattle.kv_recover.specs.Causes.{HasReadCause};
+ghost use Rattle.kv_recover.specs.Causes.{HasReadCause, HasCheckCause};
+ghost use Rattle.kv_recover.specs.Faults.{AreFaultsCounted};
 
 use crate::fault::OpenFault;
 use crate::items::Items;
@@ -62,7 +63,8 @@ fn find_in_page<D: Disk, I: Index>(
         seen.floor (with_end ends class seen.end) → ArePlaced (I.entries items.new.index) now.floor
         (with_end ends class now.end)) }
     ensures counted { OnOk result (HasCounts (I.entries items.new.index) items.new.counts) }
-    ensures cause { IfErr result (HasReadCause ⊥ (D.faults disk.old) (D.faults disk.new)) }
+    ensures cause { IfErr result (HasReadCause ⊥) }
+    ensures faults { AreFaultsCounted (D.faults disk.old) (D.faults disk.new) result }
 {
     let mut page = [0; 4096];
     read_page(disk, class, number, &mut page)?;
@@ -93,7 +95,8 @@ fn find_in_pages<D: Disk, I: Index>(
         floor (with_end ends class 0) → ArePlaced (I.entries items.new.index) now.floor
         (with_end ends class now.end)) }
     ensures counted { OnOk result (HasCounts (I.entries items.new.index) items.new.counts) }
-    ensures cause { IfErr result (HasReadCause ⊥ (D.faults disk.old) (D.faults disk.new)) }
+    ensures cause { IfErr result (HasReadCause ⊥) }
+    ensures faults { AreFaultsCounted (D.faults disk.old) (D.faults disk.new) result }
 {
     let mut seen = Seen { floor, end: 0 };
     for number in 0..pages {
@@ -113,8 +116,9 @@ pub fn check_blanks<D: Disk>(
     ensures reads { OnlyReads ⟦<D as Disk>⟧ disk.old disk.new }
     ensures ok { IsTrue D.tells → OnOk result ((page : ℕ) → first ≤ page → page < pages
         → D.seen disk.old class page ≡ zero_page) }
-    ensures cause { IfErr result (HasReadCause (IsTrue D.tells → (page : ℕ) × (first ≤ page)
-        × (D.seen disk.old class page ≢ zero_page)) (D.faults disk.old) (D.faults disk.new)) }
+    ensures cause { IfErr result (HasCheckCause (IsTrue D.tells → (page : ℕ) × (first ≤ page)
+        × (D.seen disk.old class page ≢ zero_page))) }
+    ensures counted { AreFaultsCounted (D.faults disk.old) (D.faults disk.new) result }
 {
     for page in first..pages {
         check_blank(disk, class, page)?;
@@ -143,8 +147,8 @@ pub fn find_class<D: Disk, I: Index>(
         floor (with_end ends class 0) → ArePlaced (I.entries items.new.index) now.floor
         (with_end ends class now.end)) }
     ensures counted { OnOk result (HasCounts (I.entries items.new.index) items.new.counts) }
-    ensures cause { IfErr result (HasReadCause (IsTrue D.tells → IsPast (D.seen disk.old) class)
-        (D.faults disk.old) (D.faults disk.new)) }
+    ensures cause { IfErr result (HasReadCause (IsTrue D.tells → IsPast (D.seen disk.old) class)) }
+    ensures faults { AreFaultsCounted (D.faults disk.old) (D.faults disk.new) result }
 {
     let pages = length_of(disk, class)?;
     let most = most_pages(class);
@@ -183,7 +187,8 @@ pub fn find_small<D: Disk, I: Index>(
     ensures zero { IfOk result (λ found. slice_index found.ends 0 ≡ 0) }
     ensures counted { OnOk result (HasCounts (I.entries items.new.index) items.new.counts) }
     ensures cause { IfErr result (HasReadCause (IsTrue D.tells → (class : ℕ) × (1 ≤ class)
-        × (class ≤ 7) × IsPast (D.seen disk.old) class) (D.faults disk.old) (D.faults disk.new)) }
+        × (class ≤ 7) × IsPast (D.seen disk.old) class)) }
+    ensures faults { AreFaultsCounted (D.faults disk.old) (D.faults disk.new) result }
 {
     let mut floor = 0;
     let mut ends = [0; 12];

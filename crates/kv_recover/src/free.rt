@@ -1,6 +1,6 @@
 ghost use Rattle.std.specs.Prelude.{◌≡◌, ℕ, ◌+◌, ◌*◌, ◌-◌, ◌^◌, ◌<◌, ◌≤◌, List, [], ◌∷◌, ◌++◌, true};
 ghost use Rattle.std.specs.Prelude.{false, length, min, IfSome, OnOk, IfOk, IsTrue, slice_index};
-ghost use Rattle.kv_base.specs.Fault.{HasCause};
+ghost use Rattle.kv_base.specs.Fault.{Counted};
 ghost use Rattle.kv_base.specs.Image.{Image};
 ghost use Rattle.kv_base.specs.Crash.{LeavesOnly};
 ghost use Rattle.kv_free.specs.FreeList.{Tail, StandsFor, link_of};
@@ -123,7 +123,7 @@ fn free_page<D: Disk, I: Index>(
         → LeavesOnly (D.calls disk.old) (D.calls disk.new) (D.leaves disk.old) (D.leaves disk.new)
         (MayBeFreed (I.entries index.now) first ends floor class
         (min ((number + 1) * slots_in_page class) end)) }
-    ensures cause { HasCause (D.faults disk.old) (D.faults disk.new) result }
+    ensures counted { Counted (D.faults disk.old) (D.faults disk.new) result }
     ensures count { stack.new.count ≤ min ((number + 1) * slots_in_page class) end }
 {
     let mut page = [0; 4096];
@@ -166,7 +166,7 @@ fn free_class<D: Disk, I: Index>(
         → HasFreed ⟦<D as Disk>⟧ (I.entries index.now) first ends floor class 0 disk.old stack.old
         → LeavesOnly (D.calls disk.old) (D.calls disk.new) (D.leaves disk.old) (D.leaves disk.new)
         (MayBeFreed (I.entries index.now) first ends floor class end) }
-    ensures cause { HasCause (D.faults disk.old) (D.faults disk.new) result }
+    ensures counted { Counted (D.faults disk.old) (D.faults disk.new) result }
 {
     for number in 0..pages_below(class, end) {
         free_page(disk, index, class, number, end, floor, stack)?;
@@ -193,7 +193,7 @@ fn free_next<D: Disk, I: Index>(
         → HasFreedBelow ⟦<D as Disk>⟧ (I.entries index.now) first ends floor class disk.old
         → LeavesOnly (D.calls disk.old) (D.calls disk.new) (D.leaves disk.old) (D.leaves disk.new)
         (MayBeFreed (I.entries index.now) first ends floor (class + 1) 0) }
-    ensures cause { HasCause (D.faults disk.old) (D.faults disk.new) result }
+    ensures counted { Counted (D.faults disk.old) (D.faults disk.new) result }
 {
     let mut stack = Stacks::new();
     free_class(disk, index, class, end, floor, &mut stack)?;
@@ -227,7 +227,7 @@ pub fn free_small<D: Disk, I: Index>(
     ensures range { floor < 2 ^ 64 }
     ensures count { OnOk result (length stacks.new.items ≡ 8) }
     ensures spare { OnOk result (stacks.new.spare + 7 ≡ stacks.old.spare) }
-    ensures cause { HasCause (D.faults disk.old) (D.faults disk.new) result }
+    ensures counted { Counted (D.faults disk.old) (D.faults disk.new) result }
 {
     for class in 1..8 {
         let stack = free_next(disk, index, class, ends[class as usize], floor)?;

@@ -1,7 +1,7 @@
 ghost use Rattle.std.specs.Prelude.{◌≡◌, ℕ, ◌+◌, ◌-◌, ◌^◌, ◌<◌, ◌≤◌, IsTrue, OnOk, IfOk, List, [], ◌∷◌};
 ghost use Rattle.std.specs.Prelude.{◌++◌, IfSome, slice_index, length};
 ghost use Rattle.kv_base.specs.Crash.{LeavesOnly};
-ghost use Rattle.kv_base.specs.Fault.{HasCause};
+ghost use Rattle.kv_base.specs.Fault.{Counted};
 ghost use Rattle.kv_base.specs.Image.{Image};
 ghost use Rattle.kv_free.specs.FreeList.{StandsFor, link_of};
 ghost use Rattle.kv_model.specs.SlotBytes.{tombstone_bytes};
@@ -55,7 +55,7 @@ fn free_large_at<D: Disk, I: Index>(
         disk.old stack.old
         → LeavesOnly (D.calls disk.old) (D.calls disk.new) (D.leaves disk.old) (D.leaves disk.new)
         (AnyMayBeFreed (I.entries index.now) first ends floor place.class (place.slot + 1)) }
-    ensures cause { HasCause (D.faults disk.old) (D.faults disk.new) result }
+    ensures counted { Counted (D.faults disk.old) (D.faults disk.new) result }
     ensures count { stack.new.count ≤ place.slot + 1 }
 {
     let (first, _) = spot(place);
@@ -93,7 +93,7 @@ fn free_large_class<D: Disk, I: Index>(
         stack.old
         → LeavesOnly (D.calls disk.old) (D.calls disk.new) (D.leaves disk.old) (D.leaves disk.new)
         (AnyMayBeFreed (I.entries index.now) first ends floor class end) }
-    ensures cause { HasCause (D.faults disk.old) (D.faults disk.new) result }
+    ensures counted { Counted (D.faults disk.old) (D.faults disk.new) result }
 {
     for slot in 0..end {
         free_large_at(disk, index, Place { class, slot }, floor, stack)?;
@@ -123,7 +123,7 @@ fn free_large_next<D: Disk, I: Index>(
         stacks.old.items
         → LeavesOnly (D.calls disk.old) (D.calls disk.new) (D.leaves disk.old) (D.leaves disk.new)
         (AnyMayBeFreed (I.entries index.now) first ends floor (class + 1) 0) }
-    ensures cause { HasCause (D.faults disk.old) (D.faults disk.new) result }
+    ensures counted { Counted (D.faults disk.old) (D.faults disk.new) result }
     ensures spare { OnOk result (stacks.new.spare + 1 ≡ stacks.old.spare) }
     ensures count { OnOk result (length stacks.new.items ≡ length stacks.old.items + 1) }
 {
@@ -156,7 +156,7 @@ pub fn free_large<D: Disk, I: Index>(
         → LeavesOnly (D.calls disk.old) (D.calls disk.new) (D.leaves disk.old) (D.leaves disk.new)
         (AnyMayBeFreed (I.entries index.now) first (λ c. slice_index ends.now c) floor 12 0) }
     ensures count { OnOk result (length stacks.new.items ≡ 12) }
-    ensures cause { HasCause (D.faults disk.old) (D.faults disk.new) result }
+    ensures counted { Counted (D.faults disk.old) (D.faults disk.new) result }
 {
     for class in 8..12 {
         free_large_next(disk, index, class, ends[class as usize], floor, stacks)?;

@@ -1,11 +1,13 @@
-ghost use Rattle.std.specs.Prelude.{◌≡◌, ℕ, ◌<◌, ◌≤◌, ◌≢◌, IsTrue, IfOk, IfErr, OnOk};
-ghost use Rattle.kv_base.specs.Fault.{HasCause};
+ghost use Rattle.std.specs.Prelude.{◌≡◌, ◌⊎◌, ℕ, ◌<◌, ◌≤◌, ◌≢◌, IsTrue, IfOk, IfErr, OnOk, OnErr};
+ghost use Rattle.kv_base.specs.Fault.{Counted};
 ghost use Rattle.kv_base.specs.Crash.{Only, MayLeave, LeavesOnly};
 ghost use Rattle.kv_base.specs.Image.{with_page, zero_page};
 ghost use Rattle.kv_disk.specs.Steps.{OnlyReads};
 ghost use Rattle.kv_model.specs.Head.{head_page};
-ghost use Rattle.kv_recover.specs.Causes.{HasHeadCause, HasReadCause, HasMakeCause, IsSpared};
+ghost use Rattle.kv_model.specs.Recovery.{IsNew};
+ghost use Rattle.kv_recover.specs.Causes.{HasHeadCause, HasCheckCause, HasMakeCause, IsSpared};
 ghost use Rattle.kv_recover.specs.Causes.{IsUntouched, IsUsed};
+ghost use Rattle.kv_recover.specs.Faults.{AreFaultsCounted};
 ghost use Rattle.kv_recover.specs.HeadCheck.{IsGoodHead, AreBlank, IsMade, IsMadeNew};
 ghost use Rattle.kv_recover.specs.Opened.{IsPrepared};
 ghost use Rattle.kv_recover.specs.Opened.{KeepsStore, LeftOrKept};
@@ -25,7 +27,8 @@ pub fn check_head<D: Disk>(disk: &mut D, share: Share) -> Result<bool, OpenFault
     ensures ok { IsTrue D.tells → IfOk result (λ new. IsGoodHead new (D.seen disk.old 0 0)
         share.worker share.workers) }
     ensures cause { IfErr result (HasHeadCause (IsTrue D.tells) (D.seen disk.old 0 0) share.worker
-        share.workers (D.faults disk.old) (D.faults disk.new)) }
+        share.workers) }
+    ensures counted { AreFaultsCounted (D.faults disk.old) (D.faults disk.new) result }
 {
     let mut page = [0; 4096];
     read_page(disk, 0, 0, &mut page)?;
@@ -52,8 +55,9 @@ fn check_file<D: Disk>(disk: &mut D, file: u8) -> Result<(), OpenFault>
     requires { file ≤ 13 }
     ensures reads { OnlyReads ⟦<D as Disk>⟧ disk.old disk.new }
     ensures ok { IsTrue D.tells → OnOk result ((page : ℕ) → D.seen disk.old file page ≡ zero_page) }
-    ensures cause { IfErr result (HasReadCause (IsTrue D.tells → (page : ℕ)
-        × (D.seen disk.old file page ≢ zero_page)) (D.faults disk.old) (D.faults disk.new)) }
+    ensures cause { IfErr result (HasCheckCause (IsTrue D.tells → (page : ℕ)
+        × (D.seen disk.old file page ≢ zero_page))) }
+    ensures counted { AreFaultsCounted (D.faults disk.old) (D.faults disk.new) result }
 {
     let pages = length_of(disk, file)?;
     check_blanks(disk, file, 0, pages)
@@ -63,8 +67,8 @@ fn check_file<D: Disk>(disk: &mut D, file: u8) -> Result<(), OpenFault>
 pub fn check_slabs<D: Disk>(disk: &mut D) -> Result<(), OpenFault>
     ensures reads { OnlyReads ⟦<D as Disk>⟧ disk.old disk.new }
     ensures ok { IsTrue D.tells → OnOk result (AreBlank (D.seen disk.old)) }
-    ensures cause { IfErr result (HasReadCause (IsTrue D.tells → IsUsed (D.seen disk.old))
-        (D.faults disk.old) (D.faults disk.new)) }
+    ensures cause { IfErr result (HasCheckCause (IsTrue D.tells → IsUsed (D.seen disk.old))) }
+    ensures counted { AreFaultsCounted (D.faults disk.old) (D.faults disk.new) result }
 {
     for class in 1..12 {
         check_file(disk, class)?;
@@ -82,7 +86,7 @@ fn write_head<D: Disk>(disk: &mut D, share: Share) -> Result<(), Failed>
     ensures any_moment { Only (D.seen disk.old) (D.leaves disk.old (D.calls disk.old))
         → LeavesOnly (D.calls disk.old) (D.calls disk.new) (D.leaves disk.old) (D.leaves disk.new)
         (IsMade (D.seen disk.old) share.worker share.workers) }
-    ensures cause { HasCause (D.faults disk.old) (D.faults disk.new) result }
+    ensures counted { Counted (D.faults disk.old) (D.faults disk.new) result }
 {
     let mut page = [0; 4096];
     put_head(&mut page, share.worker, share.workers);
@@ -102,11 +106,12 @@ fn make_store<D: Disk>(disk: &mut D, share: Share) -> Result<(), OpenFault>
     ensures durable { OnOk result (Only (D.seen disk.new) (D.leaves disk.new (D.calls disk.new))) }
     ensures any_moment { LeavesOnly (D.calls disk.old) (D.calls disk.new) (D.leaves disk.old)
         (D.leaves disk.new) (IsMadeNew (D.seen disk.old) share.worker share.workers) }
-    ensures cause { IfErr result (HasReadCause (IsTrue D.tells → IsUsed (D.seen disk.old))
-        (D.faults disk.old) (D.faults disk.new)) }
+    ensures cause { IfErr result (HasCheckCause (IsTrue D.tells → IsUsed (D.seen disk.old))) }
+    ensures counted { AreFaultsCounted (D.faults disk.old) (D.faults disk.new) result }
     ensures spared { IfErr result (λ fault. IsSpared fault
         → OnlyReads ⟦<D as Disk>⟧ disk.old disk.new) }
-    ensures later { D.faults disk.old ≤ D.faults disk.new }
+    ensures written { OnErr result (OnlyReads ⟦<D as Disk>⟧ disk.old disk.new
+        ⊎ (IsTrue D.tells → AreBlank (D.seen disk.old))) }
 {
     check_slabs(disk)?;
     write_head(disk, share)?;
@@ -124,10 +129,12 @@ pub fn prepare<D: Disk>(disk: &mut D, share: Share) -> Result<(), OpenFault>
     ensures any_moment { LeavesOnly (D.calls disk.old) (D.calls disk.new) (D.leaves disk.old)
         (D.leaves disk.new) (LeftOrKept ⟦<D as Disk>⟧ disk.old share.worker share.workers) }
     ensures cause { IfErr result (HasMakeCause (IsTrue D.tells) (D.seen disk.old) share.worker
-        share.workers (D.faults disk.old) (D.faults disk.new)) }
+        share.workers) }
+    ensures counted { AreFaultsCounted (D.faults disk.old) (D.faults disk.new) result }
     ensures spared { IfErr result (λ fault. IsSpared fault
         → IsUntouched ⟦<D as Disk>⟧ disk.old disk.new) }
-    ensures later { D.faults disk.old ≤ D.faults disk.new }
+    ensures written { OnErr result (IsUntouched ⟦<D as Disk>⟧ disk.old disk.new
+        ⊎ (IsTrue D.tells → IsNew (D.seen disk.old))) }
 {
     disk.sync()?;
     if check_head(disk, share)? {

@@ -1,7 +1,7 @@
 ghost use Rattle.std.specs.Prelude.{◌≡◌, ◌⊎◌, ℕ, ◌+◌, ◌*◌, ◌-◌, ◌^◌, ◌<◌, ◌≤◌, ◌++◌, List, [], ◌∷◌};
 ghost use Rattle.std.specs.Prelude.{IsTrue, OnOk, IfOk, IfErr, length, map, max};
 ghost use Rattle.std.specs.List.{range_with_len};
-ghost use Rattle.kv_base.specs.Fault.{HasCause};
+ghost use Rattle.kv_base.specs.Fault.{Counted};
 ghost use Rattle.kv_base.specs.Image.{Image, zero_page};
 ghost use Rattle.kv_disk.specs.Steps.{OnlyReads};
 ghost use Rattle.kv_model.specs.Layout.{pages_in_slot};
@@ -10,6 +10,7 @@ ghost use Rattle.kv_model.specs.Recovery.{most_pages};
 ghost use Rattle.kv_model.specs.Slots.{stamp_field};
 ghost use Rattle.kv_slot.specs.Views.{read_front};
 ghost use Rattle.kv_recover.specs.Causes.{HasReadCause};
+ghost use Rattle.kv_recover.specs.Faults.{AreFaultsCounted};
 ghost use Rattle.kv_recover.specs.Found.{with_slot};
 ghost use Rattle.kv_recover.specs.Large.{IsLater, slot_from, HasFoundLarge, FindsLargeClass};
 ghost use Rattle.kv_recover.specs.Pass.{IsPast};
@@ -91,7 +92,7 @@ pub fn read_later<D: Disk>(
         (map (λ page. D.seen disk.old class page) (range_with_len first count)) stamp floor
         later.whole later.blank later.floor) }
     ensures floor { IfOk result (λ later. floor ≤ later.floor) }
-    ensures cause { HasCause (D.faults disk.old) (D.faults disk.new) result }
+    ensures counted { Counted (D.faults disk.old) (D.faults disk.new) result }
 {
     let mut later = Later {
         whole: true,
@@ -197,7 +198,8 @@ fn find_large_at<D: Disk, I: Index>(
         seen.floor (with_end ends place.class seen.end) → ArePlaced (I.entries items.new.index)
         now.floor (with_end ends place.class now.end)) }
     ensures counted { OnOk result (HasCounts (I.entries items.new.index) items.new.counts) }
-    ensures cause { IfErr result (HasReadCause ⊥ (D.faults disk.old) (D.faults disk.new)) }
+    ensures cause { IfErr result (HasReadCause ⊥) }
+    ensures faults { AreFaultsCounted (D.faults disk.old) (D.faults disk.new) result }
 {
     let (first, _) = spot(place);
     let count = pages_in_slot(place.class);
@@ -234,7 +236,8 @@ fn find_large_slots<D: Disk, I: Index>(
         floor (with_end ends class 0) → ArePlaced (I.entries items.new.index) now.floor
         (with_end ends class now.end)) }
     ensures counted { OnOk result (HasCounts (I.entries items.new.index) items.new.counts) }
-    ensures cause { IfErr result (HasReadCause ⊥ (D.faults disk.old) (D.faults disk.new)) }
+    ensures cause { IfErr result (HasReadCause ⊥) }
+    ensures faults { AreFaultsCounted (D.faults disk.old) (D.faults disk.new) result }
 {
     let mut seen = Seen { floor, end: 0 };
     for slot in 0..slots {
@@ -289,8 +292,8 @@ pub fn find_large_class<D: Disk, I: Index>(
         floor (with_end ends class 0) → ArePlaced (I.entries items.new.index) now.floor
         (with_end ends class now.end)) }
     ensures counted { OnOk result (HasCounts (I.entries items.new.index) items.new.counts) }
-    ensures cause { IfErr result (HasReadCause (IsTrue D.tells → IsPast (D.seen disk.old) class)
-        (D.faults disk.old) (D.faults disk.new)) }
+    ensures cause { IfErr result (HasReadCause (IsTrue D.tells → IsPast (D.seen disk.old) class)) }
+    ensures faults { AreFaultsCounted (D.faults disk.old) (D.faults disk.new) result }
 {
     let pages = length_of(disk, class)?;
     let per_slot = pages_in_slot(class);

@@ -4,6 +4,7 @@ ghost use Rattle.kv_model.specs.Layout.{all_classes};
 ghost use Rattle.kv_model.specs.Recovery.{OpensAs};
 ghost use Rattle.kv_recover.specs.declared.entries.Kept.{Kept};
 ghost use Rattle.kv_recover.specs.Causes.{HasMakeCause};
+ghost use Rattle.kv_recover.specs.Faults.{AreFaultsCounted};
 ghost use Rattle.kv_recover.specs.Listed.{AreKept, IsSlabPlace};
 
 use crate::entries::{KeptList, list_all};
@@ -32,8 +33,8 @@ pub fn kept<D: Disk>(
     ensures opens { IsTrue D.tells → OnOk result (OpensAs all_classes (D.seen disk.old) worker
         workers) }
     ensures reads { OnlyReads ⟦<D as Disk>⟧ disk.old disk.new }
-    ensures cause { IfErr result (HasMakeCause (IsTrue D.tells) (D.seen disk.old) worker workers
-        (D.faults disk.old) (D.faults disk.new)) }
+    ensures cause { IfErr result (HasMakeCause (IsTrue D.tells) (D.seen disk.old) worker workers) }
+    ensures counted { AreFaultsCounted (D.faults disk.old) (D.faults disk.new) result }
 {
     let mut items = Items::new(TreeIndex::new(alloc));
     read_all(alloc, disk, &mut items, Share { worker, workers })?;

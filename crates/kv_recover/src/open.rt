@@ -1,13 +1,16 @@
-ghost use Rattle.std.specs.Prelude.{◌≡◌, ℕ, ◌-◌, ◌<◌, ◌≤◌, ◌^◌, IsTrue, OnOk, IfOk, IfErr, slice_index};
+ghost use Rattle.std.specs.Prelude.{◌≡◌, ◌⊎◌, ℕ, ◌-◌, ◌<◌, ◌≤◌, ◌^◌, IsTrue, OnOk, OnErr, IfOk};
+ghost use Rattle.std.specs.Prelude.{IfErr, slice_index};
 ghost use Rattle.std.specs.FinMap as finite;
 ghost use Rattle.kv_base.specs.Crash.{Only, LeavesOnly};
 ghost use Rattle.kv_base.specs.Image.{Image};
 ghost use Rattle.kv_disk.specs.Steps.{OnlyReads};
 ghost use Rattle.kv_model.specs.Head.{head_page};
 ghost use Rattle.kv_model.specs.Layout.{all_classes};
+ghost use Rattle.kv_model.specs.Reading.{heads_at, IsFloor};
 ghost use Rattle.kv_model.specs.Recovery.{OpensAs};
 ghost use Rattle.kv_recover.specs.Causes.{HasReadCause, HasSlabCause, HasOpenCause, IsSpared};
-ghost use Rattle.kv_recover.specs.Causes.{IsUntouched};
+ghost use Rattle.kv_recover.specs.Causes.{AreBounded, IsUntouched, HasStampsLeft, IsUsable};
+ghost use Rattle.kv_recover.specs.Faults.{AreFaultsCounted};
 ghost use Rattle.kv_recover.specs.Free.{HasFreedBelow, reading_of};
 ghost use Rattle.kv_recover.specs.FreeLarge.{AnyMayBeFreed, FreesAnyBelow, EntriesStand};
 ghost use Rattle.kv_recover.specs.Opened.{FindsAllBelow, KeepsSlabs, IsOpenedStore};
@@ -64,7 +67,8 @@ pub fn find_all<D: Disk, I: Index>(
     ensures zero { IfOk result (λ found. slice_index found.ends 0 ≡ 0) }
     ensures counted { OnOk result (HasCounts (I.entries items.new.index) items.new.counts) }
     ensures cause { IfErr result (HasReadCause (IsTrue D.tells → (class : ℕ) × (1 ≤ class)
-        × (class ≤ 11) × IsPast (D.seen disk.old) class) (D.faults disk.old) (D.faults disk.new)) }
+        × (class ≤ 11) × IsPast (D.seen disk.old) class)) }
+    ensures faults { AreFaultsCounted (D.faults disk.old) (D.faults disk.new) result }
 {
     let small = find_small(alloc, disk, items, share)?;
     let Found {
@@ -102,8 +106,8 @@ pub fn free_all<D: Disk, I: Index>(
         (AnyMayBeFreed (I.entries index.now) first (λ c. slice_index ends.now c) floor 12 0) }
     ensures range { floor < 2 ^ 64 }
     ensures count { IfOk result (λ stacks. length stacks.items ≡ 12) }
-    ensures later { D.faults disk.old ≤ D.faults disk.new }
-    ensures cause { IfErr result (HasReadCause ⊥ (D.faults disk.old) (D.faults disk.new)) }
+    ensures cause { IfErr result (HasReadCause ⊥) }
+    ensures counted { AreFaultsCounted (D.faults disk.old) (D.faults disk.new) result }
 {
     let mut stacks = ReservedList::with_room(alloc, 12)?;
     stacks.append(Stacks::new()).unwrap();
@@ -151,6 +155,8 @@ pub fn open_slabs<D: Disk, I: Index>(
     ensures opened { IsTrue D.tells → IfOk result (λ opened. IsOpenedStore (D.seen disk.new)
         share.worker share.workers (I.entries items.new.index) opened.floor opened.ends
         opened.stacks.items) }
+    ensures floor_was { IsTrue D.tells → IfOk result (λ opened. IsFloor
+        (heads_at all_classes (D.seen disk.old)) opened.floor) }
     ensures same { IsTrue D.tells → OnOk result (KeepsSlabs (D.seen disk.old) share.worker
         share.workers (D.seen disk.new)) }
     ensures durable { OnOk result (Only (D.seen disk.new) (D.leaves disk.new (D.calls disk.new))) }
@@ -160,11 +166,12 @@ pub fn open_slabs<D: Disk, I: Index>(
     // crashes and refusals
     ensures any_moment { LeavesOnly (D.calls disk.old) (D.calls disk.new) (D.leaves disk.old)
         (D.leaves disk.new) (KeepsSlabs (D.seen disk.old) share.worker share.workers) }
-    ensures cause { IfErr result (HasSlabCause (IsTrue D.tells) (D.seen disk.old)
-        (D.faults disk.old) (D.faults disk.new)) }
+    ensures cause { IfErr result (HasSlabCause (IsTrue D.tells) (D.seen disk.old)) }
+    ensures faults { AreFaultsCounted (D.faults disk.old) (D.faults disk.new) result }
     ensures spared { IfErr result (λ fault. IsSpared fault
         → OnlyReads ⟦<D as Disk>⟧ disk.old disk.new) }
-    ensures later { D.faults disk.old ≤ D.faults disk.new }
+    ensures written { OnErr result (OnlyReads ⟦<D as Disk>⟧ disk.old disk.new
+        ⊎ (IsTrue D.tells → AreBounded (D.seen disk.old) × HasStampsLeft (D.seen disk.old))) }
 {
     let found = find_all(alloc, disk, items, share)?;
     let Found { floor, ends } = found;
@@ -199,6 +206,8 @@ pub fn open_parts<D: Disk, I: Index>(
         opened.stacks.items) }
     ensures opens { IsTrue D.tells → OnOk result (OpensAs all_classes (D.seen disk.old)
         share.worker share.workers) }
+    ensures floor_was { IsTrue D.tells → IfOk result (λ opened. IsFloor
+        (heads_at all_classes (D.seen disk.old)) opened.floor) }
     ensures same { IsTrue D.tells → OnOk result (KeepsStore (D.seen disk.old) share.worker
         share.workers (D.seen disk.new)) }
     ensures durable { OnOk result (Only (D.seen disk.new) (D.leaves disk.new (D.calls disk.new))) }
@@ -209,10 +218,12 @@ pub fn open_parts<D: Disk, I: Index>(
     ensures any_moment { LeavesOnly (D.calls disk.old) (D.calls disk.new) (D.leaves disk.old)
         (D.leaves disk.new) (LeftOrKept ⟦<D as Disk>⟧ disk.old share.worker share.workers) }
     ensures cause { IfErr result (HasOpenCause (IsTrue D.tells) (D.seen disk.old) share.worker
-        share.workers (D.faults disk.old) (D.faults disk.new)) }
+        share.workers) }
+    ensures faults { AreFaultsCounted (D.faults disk.old) (D.faults disk.new) result }
     ensures spared { IfErr result (λ fault. IsSpared fault
         → IsUntouched ⟦<D as Disk>⟧ disk.old disk.new) }
-    ensures later { D.faults disk.old ≤ D.faults disk.new }
+    ensures written { OnErr result (IsUntouched ⟦<D as Disk>⟧ disk.old disk.new
+        ⊎ (IsTrue D.tells → IsUsable (D.seen disk.old) share.worker share.workers)) }
 {
     prepare(disk, share)?;
     let parts = open_slabs(alloc, disk, items, share)?;

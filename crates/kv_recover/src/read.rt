@@ -1,9 +1,10 @@
 ghost use Rattle.std.specs.Prelude.{◌≡◌, ℕ, ◌-◌, ◌^◌, ◌<◌, ◌≤◌, ◌↔◌, ◌≢◌, IsTrue, OnOk, IfOk, IfErr};
 ghost use Rattle.std.specs.Prelude.{length};
-ghost use Rattle.kv_base.specs.Fault.{HasCause};
+ghost use Rattle.kv_base.specs.Fault.{Counted};
 ghost use Rattle.kv_base.specs.Image.{zero_page};
 ghost use Rattle.kv_disk.specs.Steps.{OnlyReads};
-ghost use Rattle.kv_recover.specs.Causes.{HasReadCause};
+ghost use Rattle.kv_recover.specs.Causes.{HasCheckCause};
+ghost use Rattle.kv_recover.specs.Faults.{AreFaultsCounted};
 
 use crate::fault::OpenFault;
 use kv_base::Failed;
@@ -22,7 +23,7 @@ pub fn read_page<D: Disk>(
     ensures content { IsTrue D.tells → OnOk result (content.new ≡ D.seen disk.old file page) }
     ensures size { length content.new ≡ 4096 }
     ensures reads { OnlyReads ⟦<D as Disk>⟧ disk.old disk.new }
-    ensures cause { HasCause (D.faults disk.old) (D.faults disk.new) result }
+    ensures counted { Counted (D.faults disk.old) (D.faults disk.new) result }
 {
     disk.read(file, page, content)
 }
@@ -33,7 +34,7 @@ pub fn length_of<D: Disk>(disk: &mut D, file: u8) -> Result<u32, Failed>
     ensures rest { IsTrue D.tells → IfOk result (λ pages. (p : ℕ) → pages ≤ p
         → D.seen disk.old file p ≡ zero_page) }
     ensures reads { OnlyReads ⟦<D as Disk>⟧ disk.old disk.new }
-    ensures cause { HasCause (D.faults disk.old) (D.faults disk.new) result }
+    ensures counted { Counted (D.faults disk.old) (D.faults disk.new) result }
 {
     disk.length(file)
 }
@@ -44,8 +45,9 @@ pub fn check_blank<D: Disk>(disk: &mut D, file: u8, page: u32) -> Result<(), Ope
     requires page { page < 2 ^ 32 - 1 }
     ensures reads { OnlyReads ⟦<D as Disk>⟧ disk.old disk.new }
     ensures ok { IsTrue D.tells → OnOk result (D.seen disk.old file page ≡ zero_page) }
-    ensures cause { IfErr result (HasReadCause (IsTrue D.tells
-        → D.seen disk.old file page ≢ zero_page) (D.faults disk.old) (D.faults disk.new)) }
+    ensures cause { IfErr result (HasCheckCause (IsTrue D.tells
+        → D.seen disk.old file page ≢ zero_page)) }
+    ensures counted { AreFaultsCounted (D.faults disk.old) (D.faults disk.new) result }
 {
     let mut content = [0; 4096];
     read_page(disk, file, page, &mut content)?;

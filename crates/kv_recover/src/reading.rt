@@ -4,6 +4,7 @@ ghost use Rattle.kv_disk.specs.Steps.{OnlyReads};
 ghost use Rattle.kv_model.specs.Layout.{all_classes};
 ghost use Rattle.kv_model.specs.Recovery.{OpensAs};
 ghost use Rattle.kv_recover.specs.Causes.{HasMakeCause};
+ghost use Rattle.kv_recover.specs.Faults.{AreFaultsCounted};
 ghost use Rattle.kv_recover.specs.HeadCheck.{IsReadable};
 ghost use Rattle.kv_recover.specs.Opened.{FindsAllBelow};
 ghost use Rattle.kv_recover.specs.Placed.{HasCounts, ArePlaced};
@@ -24,7 +25,8 @@ pub fn check_store<D: Disk>(disk: &mut D, share: Share) -> Result<bool, OpenFaul
         share.worker share.workers) }
     ensures reads { OnlyReads ⟦<D as Disk>⟧ disk.old disk.new }
     ensures cause { IfErr result (HasMakeCause (IsTrue D.tells) (D.seen disk.old) share.worker
-        share.workers (D.faults disk.old) (D.faults disk.new)) }
+        share.workers) }
+    ensures counted { AreFaultsCounted (D.faults disk.old) (D.faults disk.new) result }
 {
     if check_head(disk, share)? {
         check_slabs(disk)?;
@@ -58,7 +60,8 @@ pub fn read_all<D: Disk, I: Index>(
         share.worker share.workers) }
     ensures reads { OnlyReads ⟦<D as Disk>⟧ disk.old disk.new }
     ensures cause { IfErr result (HasMakeCause (IsTrue D.tells) (D.seen disk.old) share.worker
-        share.workers (D.faults disk.old) (D.faults disk.new)) }
+        share.workers) }
+    ensures faults { AreFaultsCounted (D.faults disk.old) (D.faults disk.new) result }
 {
     let fresh = check_store(disk, share)?;
     let found = find_all(alloc, disk, items, share)?;

@@ -1,13 +1,14 @@
 ghost use Rattle.std.specs.Prelude.{◌≡◌, ℕ, ◌+◌, ◌-◌, ◌*◌, ◌^◌, ◌<◌, ◌≤◌, ◌++◌, ◌∷◌, [], IsTrue, OnOk};
 ghost use Rattle.std.specs.Prelude.{IfOk, IfErr, Some, slice_get, slice_index, length};
 ghost use Rattle.std.specs.List.{sum_by};
-ghost use Rattle.kv_base.specs.Fault.{HasCause};
+ghost use Rattle.kv_base.specs.Fault.{Counted};
 ghost use Rattle.kv_disk.specs.Steps.{OnlyReads};
 ghost use Rattle.kv_model.specs.Layout.{all_classes, slot_size};
 ghost use Rattle.kv_model.specs.Reading.{slot_at, page_of, offset_of};
 ghost use Rattle.kv_model.specs.Recovery.{OpensAs};
 ghost use Rattle.kv_recover.specs.declared.kind.ClassCount.{ClassCount};
 ghost use Rattle.kv_recover.specs.Causes.{HasReadCause, HasMakeCause};
+ghost use Rattle.kv_recover.specs.Faults.{AreFaultsCounted};
 ghost use Rattle.kv_recover.specs.Kinds.{kind_at, sum_of, HasTally, IsSurvey};
 
 use crate::fault::OpenFault;
@@ -45,8 +46,8 @@ pub fn survey<D: Disk>(
     ensures opens { IsTrue D.tells → OnOk result (OpensAs all_classes (D.seen disk.old) worker
         workers) }
     ensures reads { OnlyReads ⟦<D as Disk>⟧ disk.old disk.new }
-    ensures cause { IfErr result (HasMakeCause (IsTrue D.tells) (D.seen disk.old) worker workers
-        (D.faults disk.old) (D.faults disk.new)) }
+    ensures cause { IfErr result (HasMakeCause (IsTrue D.tells) (D.seen disk.old) worker workers) }
+    ensures counted { AreFaultsCounted (D.faults disk.old) (D.faults disk.new) result }
 {
     let share = Share { worker, workers };
     let mut items = Items::new(TreeIndex::new(alloc));
@@ -72,7 +73,7 @@ fn turn_page<D: Disk>(disk: &mut D, place: Place, page: &mut [u8; 4096]) -> Resu
     ensures offset { IfOk result (λ offset. offset ≡ offset_of place.class place.slot) }
     ensures within { IfOk result (λ offset. offset + slot_size place.class ≤ 4096) }
     ensures reads { OnlyReads ⟦<D as Disk>⟧ disk.old disk.new }
-    ensures cause { HasCause (D.faults disk.old) (D.faults disk.new) result }
+    ensures counted { Counted (D.faults disk.old) (D.faults disk.new) result }
 {
     let (number, offset) = spot(place);
     if offset == 0 {
@@ -100,7 +101,7 @@ fn small_kind<D: Disk, I: Index>(
         → IfOk result (λ kind. kind ≡ kind_at (I.entries index.now) share.worker share.workers
         place.class place.slot (slot_at all_classes (D.seen disk.old) place.class place.slot)) }
     ensures reads { OnlyReads ⟦<D as Disk>⟧ disk.old disk.new }
-    ensures cause { HasCause (D.faults disk.old) (D.faults disk.new) result }
+    ensures counted { Counted (D.faults disk.old) (D.faults disk.new) result }
 {
     let offset = turn_page(disk, place, page)?;
     Ok(kind_of(index, share, read_slot(page, place.class, offset), place))
@@ -120,7 +121,7 @@ fn large_kind<D: Disk, I: Index>(
         share.worker share.workers place.class place.slot
         (slot_at all_classes (D.seen disk.old) place.class place.slot)) }
     ensures reads { OnlyReads ⟦<D as Disk>⟧ disk.old disk.new }
-    ensures cause { HasCause (D.faults disk.old) (D.faults disk.new) result }
+    ensures counted { Counted (D.faults disk.old) (D.faults disk.new) result }
 {
     let (first, _) = spot(place);
     let count = pages_in_slot(place.class);
@@ -157,7 +158,7 @@ fn kind_here<D: Disk, I: Index>(
         → IfOk result (λ kind. kind ≡ kind_at (I.entries index.now) share.worker share.workers
         place.class place.slot (slot_at all_classes (D.seen disk.old) place.class place.slot)) }
     ensures reads { OnlyReads ⟦<D as Disk>⟧ disk.old disk.new }
-    ensures cause { HasCause (D.faults disk.old) (D.faults disk.new) result }
+    ensures counted { Counted (D.faults disk.old) (D.faults disk.new) result }
 {
     if place.class <= 7 {
         small_kind(disk, index, share, place, page)
@@ -183,7 +184,7 @@ fn count_class<D: Disk, I: Index>(
     ensures end { IfOk result (λ count. count.end ≡ end) }
     ensures sum { IfOk result (λ count. sum_of count ≡ end) }
     ensures reads { OnlyReads ⟦<D as Disk>⟧ disk.old disk.new }
-    ensures cause { HasCause (D.faults disk.old) (D.faults disk.new) result }
+    ensures counted { Counted (D.faults disk.old) (D.faults disk.new) result }
 {
     let mut page = [0; 4096];
     let mut count = ClassCount {
@@ -241,7 +242,8 @@ fn count_all<D: Disk, I: Index>(
     ensures keys { IfOk result (λ counts. counts.keys
         ≡ sum_by (λ count. count.kept) counts.classes.items) }
     ensures reads { OnlyReads ⟦<D as Disk>⟧ disk.old disk.new }
-    ensures cause { IfErr result (HasReadCause ⊥ (D.faults disk.old) (D.faults disk.new)) }
+    ensures cause { IfErr result (HasReadCause ⊥) }
+    ensures counted { AreFaultsCounted (D.faults disk.old) (D.faults disk.new) result }
 {
     let mut classes = ReservedList::with_room(alloc, 11)?;
     let mut keys = 0;

@@ -4,8 +4,8 @@ ghost use Rattle.kv_disk.specs.Steps.{OnlyReads};
 ghost use Rattle.kv_model.specs.Layout.{all_classes};
 ghost use Rattle.kv_model.specs.Reading.{IsKept, slot_at};
 ghost use Rattle.kv_model.specs.Slots.{Item as Stored};
-ghost use Rattle.kv_slab.specs.Fault.{HasStepCause};
 ghost use Rattle.kv_slot.specs.Views.{what_stands, what_stands_large};
+ghost use Rattle.kv_recover.specs.Faults.{StepCounted};
 ghost use Rattle.kv_recover.specs.Listed.{IsSlabPlace, copy_with};
 
 use crate::entries::Kept;
@@ -28,7 +28,7 @@ pub fn read_value<D: Disk>(alloc: Global, disk: &mut D, entry: &Kept) -> Result<
         entry.now.place.class entry.now.place.slot
         ≡ Stored entry.now.stamp entry.now.key value) }
     ensures reads { OnlyReads ⟦<D as Disk>⟧ disk.old disk.new }
-    ensures cause { IfErr result (HasStepCause (D.faults disk.old) (D.faults disk.new)) }
+    ensures counted { StepCounted (D.faults disk.old) (D.faults disk.new) result }
 {
     let value = value_at(alloc, disk, entry.place)?;
     Ok(value)
@@ -41,7 +41,7 @@ fn value_at<D: Disk>(alloc: Global, disk: &mut D, place: Place) -> Result<Bytes,
         → slot_at all_classes (D.seen disk.old) place.class place.slot ≡ Stored stamp key value
         → v ≡ value) }
     ensures reads { OnlyReads ⟦<D as Disk>⟧ disk.old disk.new }
-    ensures cause { IfErr result (HasStepCause (D.faults disk.old) (D.faults disk.new)) }
+    ensures counted { StepCounted (D.faults disk.old) (D.faults disk.new) result }
 {
     if place.class <= 7 {
         small_value(alloc, disk, place)
@@ -70,7 +70,7 @@ fn small_value<D: Disk>(alloc: Global, disk: &mut D, place: Place) -> Result<Byt
         → slot_at all_classes (D.seen disk.old) place.class place.slot ≡ Stored stamp key value
         → v ≡ value) }
     ensures reads { OnlyReads ⟦<D as Disk>⟧ disk.old disk.new }
-    ensures cause { IfErr result (HasStepCause (D.faults disk.old) (D.faults disk.new)) }
+    ensures counted { StepCounted (D.faults disk.old) (D.faults disk.new) result }
 {
     let (number, offset) = spot(place);
     let mut page = [0; 4096];
@@ -105,7 +105,7 @@ fn read_pages<D: Disk>(
     ensures pages { IsTrue D.tells → IfOk result (λ pages. pages.items
         ≡ map (λ page. D.seen disk.old class page) (range_with_len first count)) }
     ensures count { IfOk result (λ pages. length pages.items ≡ count) }
-    ensures cause { IfErr result (HasStepCause (D.faults disk.old) (D.faults disk.new)) }
+    ensures counted { StepCounted (D.faults disk.old) (D.faults disk.new) result }
 {
     let mut pages = ReservedList::with_room(alloc, count as usize)?;
     for number in 0..count {
@@ -124,7 +124,7 @@ fn large_value<D: Disk>(alloc: Global, disk: &mut D, place: Place) -> Result<Byt
         → slot_at all_classes (D.seen disk.old) place.class place.slot ≡ Stored stamp key value
         → v ≡ value) }
     ensures reads { OnlyReads ⟦<D as Disk>⟧ disk.old disk.new }
-    ensures cause { IfErr result (HasStepCause (D.faults disk.old) (D.faults disk.new)) }
+    ensures counted { StepCounted (D.faults disk.old) (D.faults disk.new) result }
 {
     let (first, _) = spot(place);
     let pages = read_pages(alloc, disk, place.class, first, pages_in_slot(place.class))?;

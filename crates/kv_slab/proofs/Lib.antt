@@ -23,3 +23,6 @@ pub mod LengthLemmas
 pub mod HandOver
 pub mod KeptLemmas
 pub mod OrderLemmas
+pub mod FaultLemmas
+pub mod FitLemmas
+pub mod BatchLemmas

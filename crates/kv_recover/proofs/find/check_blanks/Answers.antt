@@ -25,6 +25,7 @@ returns-in_err-check_blank-clause-reads g c =
 pub loop-page-preserved : goal.loop-page-preserved
 loop-page-preserved g c = record {
   reads = reads-then g.D.Disk _ _ _ c.loop-page.invariant.reads c.check_blank.ensures.reads;
+  calm = c.in_ok-check_blank.ensures.counted ∙ c.loop-page.invariant.calm;
   zeros = λ tells. next_blank _ _ c.args.class c.args.first c.loop-page.page
       (c.loop-page.invariant.reads.seen tells) (c.loop-page.invariant.zeros tells)
       (c.in_ok-check_blank.ensures.ok tells);

@@ -7,6 +7,7 @@ use Rattle.kv_recover.proofs.find.check_blanks.Given as goal
 abbrev pub invariant-loop-page : goal.invariant-loop-page
 invariant-loop-page g l = record {
   reads : OnlyReads g.D.Disk l.initial.disk l.disk;
+  calm : g.D.Disk.faults l.disk ≡ g.D.Disk.faults l.initial.disk;
   zeros : IsTrue g.D.Disk.tells → (page : ℕ) → l.first ≤ page → page < l.page
       → g.D.Disk.seen l.initial.disk l.class page ≡ zero_page;
 }

@@ -1,5 +1,5 @@
 -- One page more.
-use Rattle.std.proofs.Common.{◌≡◌, ℕ, ◌+◌, ◌*◌, ◌^◌, ◌≤◌, ap, subst, arith}
+use Rattle.std.proofs.Common.{◌≡◌, ℕ, ◌+◌, ◌*◌, ◌^◌, ◌≤◌, ap, subst, arith, ◌∙◌}
 use Rattle.kv_model.specs.Layout.{slots_in_page}
 use Rattle.kv_recover.specs.Pass.{HasFound}
 use Rattle.kv_disk.proofs.StepsLemmas.{reads-then}
@@ -12,6 +12,7 @@ returns-in_err-seen-clause-reads g c =
 pub loop-number-preserved : goal.loop-number-preserved
 loop-number-preserved g c = record {
   reads = reads-then g.D.Disk _ _ _ c.loop-number.invariant.reads c.find_in_page.ensures.reads;
+  calm = c.in_ok-seen.ensures.faults ∙ c.loop-number.invariant.calm;
   behind = c.in_ok-seen.ensures.end;
   placed = λ ends placed. c.in_ok-seen.ensures.placed ends
       (c.loop-number.invariant.placed ends placed);

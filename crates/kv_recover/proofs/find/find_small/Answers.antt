@@ -10,6 +10,7 @@ use Rattle.kv_recover.proofs.find.find_small.Goals as goal
 pub loop-class-init : goal.loop-class-init
 loop-class-init g c = record {
   reads = reads-none g.D.Disk c.args.disk.now;
+  calm = refl;
   size = refl;
   ends = λ class. omega (arith, zero_at 12 class);
   zero = zero_at 12 0;
@@ -28,6 +29,7 @@ pub loop-class-preserved : goal.loop-class-preserved
 loop-class-preserved g c =
     let size = c.loop-class.invariant.size in record {
       reads = reads-then g.D.Disk _ _ _ c.loop-class.invariant.reads c.find_class.ensures.reads;
+      calm = c.in_ok-seen.ensures.faults ∙ c.loop-class.invariant.calm;
       size = omega (
         arith,
         length-set {A = ℕ} c.loop-class.ends c.loop-class.class

@@ -8,6 +8,7 @@ use Rattle.kv_recover.proofs.find.find_small.Given as goal
 abbrev pub invariant-loop-class : goal.invariant-loop-class
 invariant-loop-class g l = record {
   reads : OnlyReads g.D.Disk l.initial.disk l.disk;
+  calm : g.D.Disk.faults l.disk ≡ g.D.Disk.faults l.initial.disk;
   size : length l.ends ≡ 12;
   ends : (class : ℕ) → get_or l.ends class 0 ≤ 2 ^ 24;
   zero : get_or l.ends 0 0 ≡ 0;

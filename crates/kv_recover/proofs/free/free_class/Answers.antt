@@ -1,5 +1,5 @@
 -- One page more.
-use Rattle.std.proofs.Common.{◌≡◌, inl, inr, ◌+◌, ◌*◌, min, sym, ap, subst, arith}
+use Rattle.std.proofs.Common.{◌≡◌, inl, inr, ◌+◌, ◌*◌, min, sym, ap, subst, arith, refl, ◌∙◌}
 use Rattle.kv_base.proofs.CrashLemmas.{started, joins, weaker}
 use Rattle.kv_model.specs.Layout.{slots_in_page}
 use Rattle.kv_recover.specs.Free.{HasFreed}
@@ -11,7 +11,7 @@ loop-number-init g c =
     let none : min (0 * slots_in_page c.args.class) c.args.end ≡ 0 = omega arith in
     record {
       few = omega (arith, c.requires.none);
-      later = omega arith;
+      calm = refl;
       done = λ first ends end_is has. subst (λ n. HasFreed g.D.Disk
           (g.I.Index.entries c.args.index.now) first ends c.args.floor c.args.class n
           c.args.disk.now c.args.stack.now) (sym none) has;
@@ -49,8 +49,7 @@ loop-number-preserved g c =
     ≡ c.loop-number.number * slots_in_page c.args.class = omega arith in
     record {
       few = c.free_page.ensures.count;
-      later = let before = c.loop-number.invariant.later in
-          omega (arith, before, c.free_page.ensures.cause.later);
+      calm = c.in_ok-free_page.ensures.counted ∙ c.loop-number.invariant.calm;
       done = λ first ends end_is has.
           c.in_ok-free_page.ensures.done first ends end_is
           (subst (λ n. HasFreed g.D.Disk (g.I.Index.entries c.args.index.now) first ends

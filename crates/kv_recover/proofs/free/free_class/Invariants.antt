@@ -9,7 +9,7 @@ use Rattle.kv_recover.proofs.free.free_class.Given as goal
 abbrev pub invariant-loop-number : goal.invariant-loop-number
 invariant-loop-number g l = record {
   few : l.stack.count ≤ min (l.number * slots_in_page l.class) l.end;
-  later : g.D.Disk.faults l.initial.disk ≤ g.D.Disk.faults l.disk;
+  calm : g.D.Disk.faults l.disk ≡ g.D.Disk.faults l.initial.disk;
   done : (first : Image) (ends : ℕ → ℕ) → ends l.class ≡ l.end
       → HasFreed g.D.Disk (g.I.Index.entries l.index) first ends l.floor l.class 0 l.initial.disk
       l.initial.stack

@@ -1,5 +1,5 @@
 -- One class more.
-use Rattle.std.proofs.Common.{length, length-append, ◌≡◌, ◌+◌, [], ◌∷◌, Result, Ok, Err, OnOk, IsOk, get_or, inl, refl, sym, ap, subst, arith}
+use Rattle.std.proofs.Common.{length, length-append, ◌≡◌, ◌+◌, [], ◌∷◌, Result, Ok, Err, OnOk, IsOk, get_or, inl, refl, sym, ap, subst, arith, ◌∙◌}
 use Rattle.kv_base.proofs.CrashLemmas.{started, joins, weaker}
 use Rattle.kv_recover.specs.Free.{FreesBelow, HasStacks}
 use Rattle.kv_recover.proofs.FreeLemmas.{may-later}
@@ -15,7 +15,7 @@ pub loop-class-init : goal.loop-class-init
 loop-class-init g c = record {
   room = refl;
   count = c.requires.one;
-  later = omega arith;
+  calm = refl;
   done = λ first below. record {
     freed = below;
     stacks_are = λ tells. stacks-start (g.I.Index.entries c.args.index.now) first
@@ -52,8 +52,7 @@ loop-class-preserved g c =
                 (c.in_ok-stack.stack ∷ []),
             before,
           );
-      later = let before = c.loop-class.invariant.later in
-          omega (arith, before, c.free_next.ensures.cause.later);
+      calm = c.in_ok-stack.ensures.counted ∙ c.loop-class.invariant.calm;
       done = λ first below.
           let so_far = c.loop-class.invariant.done first below in
           let next = c.in_ok-stack.ensures.done first (λ x. get_or c.args.ends.now x 0) refl

@@ -1,5 +1,5 @@
 -- The classes so far are freed.
-use Rattle.std.proofs.Common.{length, ◌≡◌, ◌+◌, ◌≤◌, length, get_or}
+use Rattle.std.proofs.Common.{length, ◌≡◌, ◌+◌, length, get_or}
 use Rattle.kv_base.specs.Image.{Image}
 use Rattle.kv_base.specs.Crash.{LeavesOnly}
 use Rattle.kv_recover.specs.Free.{MayBeFreed, HasFreedBelow, FreesBelow}
@@ -9,7 +9,7 @@ abbrev pub invariant-loop-class : goal.invariant-loop-class
 invariant-loop-class g l = record {
   room : l.stacks.spare + l.class ≡ l.initial.stacks.spare + 1;
   count : length l.stacks.items ≡ l.class;
-  later : g.D.Disk.faults l.initial.disk ≤ g.D.Disk.faults l.disk;
+  calm : g.D.Disk.faults l.disk ≡ g.D.Disk.faults l.initial.disk;
   done : (first : Image)
       → HasFreedBelow g.D.Disk (g.I.Index.entries l.index) first (λ c. get_or l.ends c 0) l.floor 1
       l.initial.disk

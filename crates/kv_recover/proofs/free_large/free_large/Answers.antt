@@ -1,5 +1,5 @@
 -- One class more.
-use Rattle.std.proofs.Common.{◌≡◌, ◌+◌, get_or, inl, refl, subst, arith}
+use Rattle.std.proofs.Common.{◌≡◌, ◌+◌, get_or, inl, refl, subst, arith, ◌∙◌}
 use Rattle.kv_base.proofs.CrashLemmas.{started, joins, weaker}
 use Rattle.kv_recover.specs.FreeLarge.{FreesAnyBelow}
 use Rattle.kv_recover.proofs.FreeLargeSteps.{any-later}
@@ -9,7 +9,7 @@ pub loop-class-init : goal.loop-class-init
 loop-class-init g c = record {
   room = omega (arith, c.requires.room);
   count = c.requires.eight;
-  later = omega arith;
+  calm = refl;
   done = λ first below. below;
   any_moment = λ first below. started _ _ _ (λ image left. any-later
       (g.I.Index.entries c.args.index.now) first (λ x. get_or c.args.ends.now x 0) c.args.floor 8 0
@@ -34,8 +34,7 @@ loop-class-preserved g c =
       room = omega arith;
       count = let before = c.loop-class.invariant.count in
           let next = c.in_ok-free_large_next.ensures.count in omega arith;
-      later = let before = c.loop-class.invariant.later in
-          omega (arith, before, c.free_large_next.ensures.cause.later);
+      calm = c.in_ok-free_large_next.ensures.counted ∙ c.loop-class.invariant.calm;
       done = λ first below. c.in_ok-free_large_next.ensures.done first
           (λ x. get_or c.args.ends.now x 0) refl (c.loop-class.invariant.done first below);
       any_moment = λ first below.

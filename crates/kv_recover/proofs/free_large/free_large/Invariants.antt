@@ -9,7 +9,7 @@ abbrev pub invariant-loop-class : goal.invariant-loop-class
 invariant-loop-class g l = record {
   room : 12 ≤ l.stacks.spare + l.class;
   count : length l.stacks.items ≡ l.class;
-  later : g.D.Disk.faults l.initial.disk ≤ g.D.Disk.faults l.disk;
+  calm : g.D.Disk.faults l.disk ≡ g.D.Disk.faults l.initial.disk;
   done : (first : Image)
       → FreesAnyBelow g.D.Disk (g.I.Index.entries l.index) first (λ c. get_or l.ends c 0) l.floor 8
       l.initial.disk l.initial.stacks.items

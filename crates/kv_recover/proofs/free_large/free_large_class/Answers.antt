@@ -1,5 +1,5 @@
 -- One slot more.
-use Rattle.std.proofs.Common.{◌≡◌, inl, inr, ◌+◌, subst, arith}
+use Rattle.std.proofs.Common.{◌≡◌, inl, inr, ◌+◌, subst, arith, refl, ◌∙◌}
 use Rattle.kv_base.proofs.CrashLemmas.{started, joins, weaker}
 use Rattle.kv_recover.specs.FreeLarge.{HasFreedAny}
 use Rattle.kv_recover.proofs.FreeLargeSteps.{any-later}
@@ -8,7 +8,7 @@ use Rattle.kv_recover.proofs.free_large.free_large_class.Goals as goal
 pub loop-slot-init : goal.loop-slot-init
 loop-slot-init g c = record {
   few = omega (arith, c.requires.none);
-  later = omega arith;
+  calm = refl;
   done = λ first ends end_is has. has;
   any_moment = λ first ends end_is has. started _ _ _ (λ image left. any-later
       (g.I.Index.entries c.args.index.now) first ends
@@ -36,8 +36,7 @@ returns-in_err-free_large_at-clause-any_moment g c = λ first ends end_is has.
 pub loop-slot-preserved : goal.loop-slot-preserved
 loop-slot-preserved g c = record {
   few = c.free_large_at.ensures.count;
-  later = let before = c.loop-slot.invariant.later in
-      omega (arith, before, c.free_large_at.ensures.cause.later);
+  calm = c.in_ok-free_large_at.ensures.counted ∙ c.loop-slot.invariant.calm;
   done = λ first ends end_is has.
       c.in_ok-free_large_at.ensures.done first ends (omega (arith, end_is))
       (c.loop-slot.invariant.done first ends end_is has);

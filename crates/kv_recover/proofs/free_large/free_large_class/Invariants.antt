@@ -8,7 +8,7 @@ use Rattle.kv_recover.proofs.free_large.free_large_class.Given as goal
 abbrev pub invariant-loop-slot : goal.invariant-loop-slot
 invariant-loop-slot g l = record {
   few : l.stack.count ≤ l.slot;
-  later : g.D.Disk.faults l.initial.disk ≤ g.D.Disk.faults l.disk;
+  calm : g.D.Disk.faults l.disk ≡ g.D.Disk.faults l.initial.disk;
   done : (first : Image) (ends : ℕ → ℕ) → ends l.class ≡ l.end
       → HasFreedAny g.D.Disk (g.I.Index.entries l.index) first ends l.floor l.class 0
       l.initial.disk l.initial.stack

@@ -25,6 +25,7 @@ returns-in_err-check_file-clause-reads g c =
 pub loop-class-preserved : goal.loop-class-preserved
 loop-class-preserved g c = record {
   reads = reads-then g.D.Disk _ _ _ c.loop-class.invariant.reads c.check_file.ensures.reads;
+  calm = c.in_ok-check_file.ensures.counted ∙ c.loop-class.invariant.calm;
   zeros = λ tells. next_slab _ _ c.loop-class.class (c.loop-class.invariant.reads.seen tells)
       (c.loop-class.invariant.zeros tells) (c.in_ok-check_file.ensures.ok tells);
 }

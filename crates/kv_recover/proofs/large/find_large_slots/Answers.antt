@@ -1,5 +1,5 @@
 -- One slot more.
-use Rattle.std.proofs.Common.{◌≡◌, ◌+◌, subst, arith}
+use Rattle.std.proofs.Common.{◌≡◌, ◌+◌, subst, arith, ◌∙◌}
 use Rattle.kv_recover.specs.Large.{HasFoundLarge}
 use Rattle.kv_disk.proofs.StepsLemmas.{reads-then}
 use Rattle.kv_recover.proofs.large.find_large_slots.Goals as goal
@@ -11,6 +11,7 @@ returns-in_err-seen-clause-reads g c =
 pub loop-slot-preserved : goal.loop-slot-preserved
 loop-slot-preserved g c = record {
   reads = reads-then g.D.Disk _ _ _ c.loop-slot.invariant.reads c.find_large_at.ensures.reads;
+  calm = c.in_ok-seen.ensures.faults ∙ c.loop-slot.invariant.calm;
   behind = c.in_ok-seen.ensures.end;
   placed = λ ends placed. c.in_ok-seen.ensures.placed ends
       (c.loop-slot.invariant.placed ends placed);

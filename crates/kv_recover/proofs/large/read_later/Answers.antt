@@ -1,5 +1,5 @@
 -- One page more.
-use Rattle.std.proofs.Common.{◌≡◌, ◌+◌, [], ◌∷◌, ◌++◌, map, sym, ap, ◌∙◌, subst, arith}
+use Rattle.std.proofs.Common.{◌≡◌, ◌+◌, [], ◌∷◌, ◌++◌, map, sym, ap, ◌∙◌, subst, arith, refl}
 use Rattle.std.specs.List.{range_with_len}
 use Rattle.std.proofs.lemmas.List.FromFn.{map-range_with_len_more}
 use Rattle.kv_disk.proofs.StepsLemmas.{reads-none, reads-then}
@@ -10,6 +10,7 @@ use Rattle.kv_recover.proofs.large.read_later.Goals as goal
 pub loop-number-init : goal.loop-number-init
 loop-number-init g c = record {
   reads = reads-none g.D.Disk c.args.disk.now;
+  calm = refl;
   floor = omega arith;
   pages = λ tells. later-none c.args.stamp c.args.floor;
 }
@@ -21,6 +22,7 @@ returns-in_err-read_page-clause-reads g c =
 pub loop-number-preserved : goal.loop-number-preserved
 loop-number-preserved g c = record {
   reads = reads-then g.D.Disk _ _ _ c.loop-number.invariant.reads c.read_page.ensures.reads;
+  calm = c.in_ok-read_page.ensures.counted ∙ c.loop-number.invariant.calm;
   floor = let before = c.loop-number.invariant.floor in
       let later = c.with_later-later.ensures.floor in omega arith;
   pages = λ tells.

@@ -1,5 +1,5 @@
 -- The pages so far are read.
-use Rattle.std.proofs.Common.{◌≤◌, IsTrue, map}
+use Rattle.std.proofs.Common.{◌≡◌, ◌≤◌, IsTrue, map}
 use Rattle.std.specs.List.{range_with_len}
 use Rattle.kv_disk.specs.Steps.{OnlyReads}
 use Rattle.kv_recover.specs.Large.{IsLater}
@@ -8,6 +8,7 @@ use Rattle.kv_recover.proofs.large.read_later.Given as goal
 abbrev pub invariant-loop-number : goal.invariant-loop-number
 invariant-loop-number g l = record {
   reads : OnlyReads g.D.Disk l.initial.disk l.disk;
+  calm : g.D.Disk.faults l.disk ≡ g.D.Disk.faults l.initial.disk;
   floor : l.floor ≤ l.later.floor;
   pages : IsTrue g.D.Disk.tells → IsLater
       (map (λ page. g.D.Disk.seen l.initial.disk l.class page) (range_with_len l.first l.number))

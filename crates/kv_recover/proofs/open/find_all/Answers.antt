@@ -17,6 +17,7 @@ loop-class-preserved g c =
     let size = c.loop-class.invariant.size in record {
       reads = reads-then g.D.Disk _ _ _ c.loop-class.invariant.reads
           c.find_large_class.ensures.reads;
+      calm = c.in_ok-seen.ensures.faults ∙ c.loop-class.invariant.calm;
       size = omega (
         arith,
         length-set {A = ℕ} c.loop-class.ends c.loop-class.class

@@ -1,5 +1,6 @@
 -- What is kept is found, and what isn't is freed.
-use Rattle.std.proofs.Common.{◌+◌, ◌<◌, slice_get, ap, ◌∙◌, arith}
+use Rattle.std.proofs.Common.{inl, inr, ◌+◌, ◌<◌, slice_get, ap, ◌∙◌, arith}
+use Rattle.kv_recover.proofs.CauseLemmas.{on_err}
 use Rattle.kv_recover.proofs.FilteredLemmas.{get-within}
 use Rattle.kv_recover.proofs.OpenSteps.{slabs-read, below-start, floor-found, entries-stand}
 use Rattle.kv_recover.proofs.OpenSteps.{slabs-freed, slabs-same, slabs-opened, bounded-found}
@@ -132,3 +133,54 @@ returns-clause-rooms g c = record {
       c.are_full.ensures c.if-not-are_full.false class stack (ap (λ xs. slice_get xs class) c.as_slice.ensures ∙ is)
       ∙ ap (λ n. n + stack.count) (c.in_ok-found.ensures.counted.count class low);
 }
+
+pub returns-in_err-found-clause-written : goal.returns-in_err-found-clause-written
+returns-in_err-found-clause-written g c =
+    on_err c.from_residual.result _ (inl c.find_all.ensures.reads)
+
+pub returns-then-floor-ge-LAST_STAMP-clause-written :
+    goal.returns-then-floor-ge-LAST_STAMP-clause-written
+returns-then-floor-ge-LAST_STAMP-clause-written g c = inl c.find_all.ensures.reads
+
+pub returns-in_err-stacks-clause-written : goal.returns-in_err-stacks-clause-written
+returns-in_err-stacks-clause-written g c = on_err c.from_residual-in_err-stacks.result _ (
+    inr (λ tells. (
+      bounded-found g.D.Disk g.met.D.Disk.told c.args.share.worker c.args.share.workers c.args.disk.now
+          c.find_all.new.disk c.requires.settled c.find_all.ensures.reads
+          (g.I.Index.entries c.find_all.new.items.index)
+          c.in_ok-found.found.floor c.in_ok-found.found.ends c.in_ok-found.ensures.found tells,
+      record {
+        floor = c.in_ok-found.found.floor;
+        floor_is =
+            floor-found g.D.Disk g.met.D.Disk.told c.args.share.worker c.args.share.workers c.args.disk.now
+            c.find_all.new.disk c.requires.settled c.find_all.ensures.reads
+            (g.I.Index.entries c.find_all.new.items.index)
+            c.in_ok-found.found.floor c.in_ok-found.found.ends c.in_ok-found.ensures.found tells;
+        spare = let below = c.if-floor-ge-LAST_STAMP.false in omega arith;
+      },
+    )))
+
+pub returns-then-not-are_full-clause-written : goal.returns-then-not-are_full-clause-written
+returns-then-not-are_full-clause-written g c =
+    inr (λ tells. (
+      bounded-found g.D.Disk g.met.D.Disk.told c.args.share.worker c.args.share.workers c.args.disk.now
+          c.find_all.new.disk c.requires.settled c.find_all.ensures.reads
+          (g.I.Index.entries c.find_all.new.items.index)
+          c.in_ok-found.found.floor c.in_ok-found.found.ends c.in_ok-found.ensures.found tells,
+      record {
+        floor = c.in_ok-found.found.floor;
+        floor_is =
+            floor-found g.D.Disk g.met.D.Disk.told c.args.share.worker c.args.share.workers c.args.disk.now
+            c.find_all.new.disk c.requires.settled c.find_all.ensures.reads
+            (g.I.Index.entries c.find_all.new.items.index)
+            c.in_ok-found.found.floor c.in_ok-found.found.ends c.in_ok-found.ensures.found tells;
+        spare = let below = c.if-floor-ge-LAST_STAMP.false in omega arith;
+      },
+    ))
+
+pub returns-clause-floor_was : goal.returns-clause-floor_was
+returns-clause-floor_was g c =
+    floor-found g.D.Disk g.met.D.Disk.told c.args.share.worker c.args.share.workers c.args.disk.now
+    c.find_all.new.disk c.requires.settled c.find_all.ensures.reads
+    (g.I.Index.entries c.find_all.new.items.index)
+    c.in_ok-found.found.floor c.in_ok-found.found.ends c.in_ok-found.ensures.found

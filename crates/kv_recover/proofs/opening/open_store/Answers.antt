@@ -17,6 +17,7 @@ returns-in-Ok-slabs_of-clause-ok g c =
       spare = rooms.spare;
       stamps = λ key entry has. (rooms.placed key entry has).stamp;
       opens = c.in-Ok.ensures.opens;
+      floor_was = c.in-Ok.ensures.floor_was;
       holds = λ tells. (c.in-Ok.ensures.opened tells).holds;
       floor_is = λ tells. (c.in-Ok.ensures.opened tells).floor_is;
       lists = λ tells. opened-lists _ _ _ _ _ c.in-Ok.parts.ends c.in-Ok.parts.stacks.items
@@ -24,5 +25,5 @@ returns-in-Ok-slabs_of-clause-ok g c =
       keeps = c.in-Ok.ensures.same;
       durable = c.in-Ok.ensures.durable;
       any_moment = c.open_parts.ensures.any_moment;
-      later = c.open_parts.ensures.later;
+      calm = c.in-Ok.ensures.faults;
     })

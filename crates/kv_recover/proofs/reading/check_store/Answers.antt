@@ -11,10 +11,8 @@ pub returns-in_err-check_head-clause-cause : goal.returns-in_err-check_head-clau
 returns-in_err-check_head-clause-cause g c =
     handed c.from_residual.result _ _ c.from_residual.ensures.1
     (λ e is. subst (HasMakeCause (IsTrue g.D.Disk.tells) (g.D.Disk.seen c.args.disk.now)
-    c.args.share.worker c.args.share.workers (g.D.Disk.faults c.args.disk.now)
-    (g.D.Disk.faults c.check_head.new.disk)) (sym is) (head-cause (IsTrue g.D.Disk.tells)
+    c.args.share.worker c.args.share.workers) (sym is) (head-cause (IsTrue g.D.Disk.tells)
     (g.D.Disk.seen c.args.disk.now) c.args.share.worker c.args.share.workers
-    (g.D.Disk.faults c.args.disk.now) (g.D.Disk.faults c.check_head.new.disk)
     c.in_err-check_head.field-0.0 c.in_err-check_head.ensures.cause))
 
 pub returns-in_err-check_slabs-clause-cause : goal.returns-in_err-check_slabs-clause-cause
@@ -25,12 +23,9 @@ returns-in_err-check_slabs-clause-cause g c =
     handed c.from_residual-in_err-check_slabs.result _ _
     c.from_residual-in_err-check_slabs.ensures.1
     (λ e is. subst (HasMakeCause (IsTrue g.D.Disk.tells) (g.D.Disk.seen c.args.disk.now)
-    c.args.share.worker c.args.share.workers (g.D.Disk.faults c.args.disk.now)
-    (g.D.Disk.faults c.check_slabs.new.disk)) (sym is) (make-cause (IsTrue g.D.Disk.tells)
+    c.args.share.worker c.args.share.workers) (sym is) (make-cause (IsTrue g.D.Disk.tells)
     (g.D.Disk.seen c.args.disk.now) (g.D.Disk.seen c.check_head.new.disk) c.args.share.worker
-    c.args.share.workers (g.D.Disk.faults c.args.disk.now) (g.D.Disk.faults c.check_head.new.disk)
-    (g.D.Disk.faults c.check_slabs.new.disk) c.in_err-check_slabs.field-0.0
-    c.check_head.ensures.reads.later c.check_head.ensures.reads.seen zero
+    c.args.share.workers c.in_err-check_slabs.field-0.0 c.check_head.ensures.reads.seen zero
     c.in_err-check_slabs.ensures.cause))
 
 pub returns-in_err-check_slabs-clause-reads : goal.returns-in_err-check_slabs-clause-reads

@@ -4,7 +4,7 @@ use Rattle.kv_disk.proofs.StepsLemmas.{reads-then}
 use Rattle.kv_recover.specs.Causes.{HasMakeCause}
 use Rattle.kv_recover.specs.Opened.{FindsAllBelow}
 use Rattle.kv_recover.proofs.CauseLemmas.{handed, past-cause, at_first}
-use Rattle.kv_recover.proofs.ReadingLemmas.{readable-own, readable-opens}
+use Rattle.kv_recover.proofs.ReadingLemmas.{readable-own, readable-start, readable-opens}
 use Rattle.kv_recover.proofs.reading.read_all.Goals as goal
 
 pub returns-in_err-found-clause-reads : goal.returns-in_err-found-clause-reads
@@ -36,12 +36,12 @@ returns-in_err-found-clause-cause g c =
     let first = g.D.Disk.seen c.args.disk.now in
     handed c.from_residual-in_err-found.result _ _ c.from_residual-in_err-found.ensures.1
     (λ e is. subst (HasMakeCause (IsTrue g.D.Disk.tells) first c.args.share.worker
-    c.args.share.workers (g.D.Disk.faults c.args.disk.now) (g.D.Disk.faults c.find_all.new.disk))
+    c.args.share.workers)
     (sym is) (past-cause (IsTrue g.D.Disk.tells) first c.args.share.worker c.args.share.workers
-    (g.D.Disk.faults c.args.disk.now) (g.D.Disk.faults c.check_store.new.disk)
-    (g.D.Disk.faults c.find_all.new.disk) c.in_err-found.field-0.0 c.check_store.ensures.reads.later
+    c.in_err-found.field-0.0
     (λ tells. readable-own c.in_ok-fresh.fresh first c.args.share.worker c.args.share.workers
     c.requires.below c.requires.limit (c.in_ok-fresh.ensures.readable tells))
+    (λ tells. readable-start c.in_ok-fresh.fresh first c.args.share.worker c.args.share.workers
+    (c.in_ok-fresh.ensures.readable tells))
     (at_first (IsTrue g.D.Disk.tells) (g.D.Disk.seen c.check_store.new.disk) first
-    (g.D.Disk.faults c.check_store.new.disk) (g.D.Disk.faults c.find_all.new.disk)
     c.in_err-found.field-0.0 c.check_store.ensures.reads.seen c.in_err-found.ensures.cause)))

@@ -38,6 +38,7 @@ loop-class-preserved g c =
     ]) in
     record {
       reads = reads-then g.D.Disk _ _ _ c.loop-class.invariant.reads c.count_class.ensures.reads;
+      calm = c.in_ok-count.ensures.counted ∙ c.loop-class.invariant.calm;
       count = omega (
         arith,
         ap length items,

@@ -11,6 +11,7 @@ use Rattle.kv_recover.proofs.surveying.count_all.Given as goal
 abbrev pub invariant-loop-class : goal.invariant-loop-class
 invariant-loop-class g l = record {
   reads : OnlyReads g.D.Disk l.initial.disk l.disk;
+  calm : g.D.Disk.faults l.disk ≡ g.D.Disk.faults l.initial.disk;
   count : length l.classes.items + 1 ≡ l.class;
   few : l.keys ≤ l.class * 2 ^ 24;
   keys_are : l.keys ≡ sum_by (λ count. count.kept) l.classes.items;

@@ -11,6 +11,7 @@ use Rattle.kv_recover.proofs.surveying.count_class.Goals as goal
 pub loop-slot-init : goal.loop-slot-init
 loop-slot-init g c = record {
   reads = reads-none g.D.Disk c.args.disk.now;
+  calm = refl;
   sum = refl;
   end_is = refl;
   page = λ tells small some. absurd (omega arith);
@@ -33,6 +34,7 @@ loop-slot-preserved g c =
     ∙ ap (λ i. i class (page_of class (slot - 1))) (sym (c.loop-slot.invariant.reads.seen tells)) in
     record {
       reads = reads-then g.D.Disk _ _ _ c.loop-slot.invariant.reads c.kind_here.ensures.reads;
+      calm = c.in_ok-kind.ensures.counted ∙ c.loop-slot.invariant.calm;
       sum = let sum = c.counted-count.ensures.sum in let was = c.loop-slot.invariant.sum in omega arith;
       end_is = c.counted-count.ensures.end ∙ c.loop-slot.invariant.end_is;
       page = λ tells small some.

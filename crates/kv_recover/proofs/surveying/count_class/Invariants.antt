@@ -9,6 +9,7 @@ use Rattle.kv_recover.proofs.surveying.count_class.Given as goal
 abbrev pub invariant-loop-slot : goal.invariant-loop-slot
 invariant-loop-slot g l = record {
   reads : OnlyReads g.D.Disk l.initial.disk l.disk;
+  calm : g.D.Disk.faults l.disk ≡ g.D.Disk.faults l.initial.disk;
   sum : sum_of l.count ≡ l.slot;
   end_is : l.count.end ≡ l.end;
   page : IsTrue g.D.Disk.tells → l.class ≤ 7 → 0 < l.slot

@@ -23,6 +23,7 @@ loop-number-preserved g c =
     let size = c.loop-number.invariant.size in
     record {
       reads = reads-then g.D.Disk _ _ _ c.loop-number.invariant.reads c.read_page.ensures.reads;
+      calm = c.in_ok-read_page.ensures.counted ∙ c.loop-number.invariant.calm;
       room = omega arith;
       size = omega (
         arith,

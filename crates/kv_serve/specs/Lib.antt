@@ -1,3 +1,5 @@
 pub mod Answers
 pub mod Begins
+pub mod Opening
+pub mod Serve
 pub mod Words

@@ -1,6 +1,18 @@
 //! The program's commands, from words and bytes to bytes.
 #![tactic(auto)]
 
+mod ended;
+mod give_back;
+mod opening;
+mod refuse;
 mod room;
 mod serve;
+mod serve_disk;
+mod status;
+mod top;
 mod words;
+
+pub use ended::{Ended, Endings, Refused};
+pub use kv_recover::OpenFault;
+pub use kv_session::Ending;
+pub use top::run_words;

@@ -1,0 +1,3 @@
+pub mod FoundLemmas
+pub mod OpeningLemmas
+pub mod ServeLemmas

@@ -2,6 +2,7 @@ pub mod FreedLemmas
 pub mod SoFarLemmas
 pub mod FoundLemmas
 pub mod PassLemmas
+pub mod FitLemmas
 pub mod SlabLemmas
 pub mod PageLemmas
 pub mod FreeLemmas
@@ -9,6 +10,7 @@ pub mod FindLemmas
 pub mod FilteredLemmas
 pub mod EntryLemmas
 pub mod LargeLemmas
+pub mod WholeLemmas
 pub mod FrontLemmas
 pub mod LaterLemmas
 pub mod CountLemmas
@@ -23,5 +25,7 @@ pub mod OpenSteps
 pub mod PrepareSteps
 pub mod PartsSteps
 pub mod ReadingLemmas
+pub mod WritesLemmas
+pub mod KeptLemmas
 pub mod JoinLemmas
 pub mod SurveyLemmas

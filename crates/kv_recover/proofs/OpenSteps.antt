@@ -1,5 +1,5 @@
 -- The steps of opening the slabs of a disk, in the images that a crash may leave.
-use Rattle.std.proofs.Common.{◌≡◌, inl, inr, ℕ, ◌+◌, ◌<◌, ◌≤◌, ◌^◌, List, length, get_or, set}
+use Rattle.std.proofs.Common.{◌≡◌, inl, inr, ℕ, ◌+◌, ◌-◌, ◌<◌, ◌≤◌, ◌^◌, List, length, get_or, set}
 use Rattle.std.proofs.Common.{refl, sym, ◌∙◌, subst, arith, IsTrue, get_or-set_same, get_or-set_other}
 use Rattle.std.proofs.lemmas.Bool.{cases_eq}
 use Rattle.kv_base.specs.Image.{Image}
@@ -14,18 +14,19 @@ use Rattle.kv_model.specs.Layout.{all_classes, pages_in_slot}
 use Rattle.kv_model.specs.Reading.{Reading, page_of, large_slot, slot_at, heads_at, IsFloor}
 use Rattle.kv_disk.specs.Steps.{OnlyReads}
 use Rattle.kv_disk.proofs.StepsLemmas.{reads_on}
-use Rattle.kv_recover.specs.Causes.{AreBounded}
+use Rattle.kv_recover.specs.Causes.{AreBounded, HasStampsLeft}
 use Rattle.kv_recover.specs.Found.{HoldsKept}
-use Rattle.kv_recover.specs.Pass.{FindsBelow}
+use Rattle.kv_recover.specs.Pass.{FindsBelow, ItemsFit}
 use Rattle.kv_recover.specs.Large.{FindsLargeClass}
 use Rattle.kv_recover.specs.Free.{MayBeFreed, IsFreed, HasFreedBelow, FreesBelow, reading_of}
 use Rattle.kv_recover.specs.FreeLarge.{AnyMayBeFreed, AreFreed, FreesAnyBelow, EntriesStand}
-use Rattle.kv_recover.specs.Opened.{KeepsSlabs, IsOpenedStore, IsEndOf, FindsAllBelow}
+use Rattle.kv_recover.specs.Opened.{KeepsSlabs, IsOpenedStore, IsEndOf, FindsAllBelow, HasFoundStore}
 use Rattle.kv_recover.proofs.FreeLemmas.{may-later}
 use Rattle.kv_recover.proofs.FreeSteps.{Told}
 use Rattle.kv_recover.proofs.FreeLargeLemmas.{same_pages}
 use Rattle.kv_recover.proofs.FreeLargeSteps.{any-later}
 use Rattle.kv_recover.proofs.FilteredLemmas.{get-within}
+use Rattle.kv_recover.proofs.OpenedLemmas.{class_cases, at_none}
 use Rattle.kv_recover.proofs.OpenedLemmas.{all-slots, all-heads, same-store, freed-may, holds-still, floor-stays, has-list}
 
 -- the classes 1 to 7 were seen
@@ -39,6 +40,7 @@ all-start image worker workers entries floor ends small = record {
     large = λ large. absurd (omega arith);
   };
   bounded = small.bounded;
+  fits = small.fits;
 }
 
 -- one class of 8 to 11 more
@@ -69,6 +71,10 @@ all-next image worker workers class before now floor greatest end ends large wit
             from))
         | inr other ↦ below.bounded c page low
             (let differ : (c ≡ class) → ⊥ = other in omega arith) from
+      ];
+      fits = λ c low high. elim (cases_eq c class) [
+        | inl same ↦ subst (ItemsFit image) (sym same) next.fits
+        | inr other ↦ below.fits c low (let differ : (c ≡ class) → ⊥ = other in omega arith)
       ];
     }
 
@@ -178,8 +184,8 @@ weaker-told from to past since P Q tells told run so = record {
   before = run.before;
 }
 
--- the slabs of a disk with nothing pending: they are read, and then freed
-module _ {D : Type 0} (d : Ghosts D) (told : Told d) (worker workers : ℕ) (old read : D)
+-- the slabs of a disk with nothing pending are read
+module _ {D : Type 0} (d : Ghosts D) (worker workers : ℕ) (old read : D)
     (only : Only (d.seen old) (d.leaves old (d.calls old))) (reads : OnlyReads d old read) where
   -- what is kept is found
   pub slabs-read : LeavesOnly (d.calls old) (d.calls read) (d.leaves old) (d.leaves read)
@@ -191,7 +197,7 @@ module _ {D : Type 0} (d : Ghosts D) (told : Told d) (worker workers : ℕ) (old
       (keeps-self (d.seen old) worker workers))) reads
 
   -- nothing is freed yet
-  pub below-start : (entries : Entries) (floor : ℕ) (ends : List ℕ)
+  below-start : (entries : Entries) (floor : ℕ) (ends : List ℕ)
       → HasFreedBelow d entries (d.seen old) (λ c. get_or ends c 0) floor 1 read
   below-start entries floor ends = record {
     seen = λ tells. subst (IsFreed entries (d.seen old) (λ c. get_or ends c 0) floor 1 0)
@@ -213,77 +219,139 @@ module _ {D : Type 0} (d : Ghosts D) (told : Told d) (worker workers : ℕ) (old
         });
   }
 
-  module _ (entries : Entries) (floor : ℕ) (ends : List ℕ)
-      (found : IsTrue d.tells
-      → FindsAllBelow (d.seen old) worker workers 12 entries floor ends) where
-    holds : IsTrue d.tells → HoldsKept entries (slot_at all_classes (d.seen old)) worker workers
-    holds tells = subst (λ r. HoldsKept entries r worker workers) (all-slots (d.seen old))
-        (found tells).found.holds
+-- all slabs of a disk with nothing pending were read
+pub record SlabsRead {D : Type 0} (d : Ghosts D) (worker workers : ℕ) (old read : D)
+    (entries : Entries) (floor : ℕ) (ends : List ℕ) : Type 0 where
+  pub told : Told d
+  pub settled : Only (d.seen old) (d.leaves old (d.calls old))
+  pub reads : OnlyReads d old read
+  pub found : IsTrue d.tells → FindsAllBelow (d.seen old) worker workers 12 entries floor ends
 
-    pub floor-found : IsTrue d.tells → IsFloor (heads_at all_classes (d.seen old)) floor
-    floor-found tells = subst (λ h. IsFloor h floor) (all-heads (d.seen old))
-        (found tells).found.floor_is
+pub are-read : {D : Type 0} {d : Ghosts D} {worker workers : ℕ} {old read : D} {entries : Entries}
+    {floor : ℕ} {ends : List ℕ} → Told d → Only (d.seen old) (d.leaves old (d.calls old))
+    → OnlyReads d old read
+    → (IsTrue d.tells → FindsAllBelow (d.seen old) worker workers 12 entries floor ends)
+    → SlabsRead d worker workers old read entries floor ends
+are-read told settled reads found =
+    record { told = told; settled = settled; reads = reads; found = found }
 
-    pub bounded-found : IsTrue d.tells → AreBounded (d.seen old)
-    bounded-found tells class page low high = (found tells).bounded class page low (omega arith)
+-- then what isn't kept is freed
+module _ {D : Type 0} {d : Ghosts D} {worker workers : ℕ} {old read : D} {entries : Entries}
+    {floor : ℕ} {ends : List ℕ} (slabs : SlabsRead d worker workers old read entries floor ends) where
+  holds : IsTrue d.tells → HoldsKept entries (slot_at all_classes (d.seen old)) worker workers
+  holds tells = subst (λ r. HoldsKept entries r worker workers) (all-slots (d.seen old))
+      (slabs.found tells).found.holds
 
-    pub entries-stand : IsTrue d.tells → EntriesStand entries (reading_of (d.seen old))
-    entries-stand tells = kept-stand entries (reading_of (d.seen old)) worker workers (holds tells)
+  floor-found : IsTrue d.tells → IsFloor (heads_at all_classes (d.seen old)) floor
+  floor-found tells = subst (λ h. IsFloor h floor) (all-heads (d.seen old))
+      (slabs.found tells).found.floor_is
 
-    module _ (fits : floor < 2 ^ 64) (freed : D) where
-      same-image : (image : Image) → IsTrue d.tells
-          → AnyMayBeFreed entries (d.seen old) (λ c. get_or ends c 0) floor 12 0 image
-          → KeepsSlabs (d.seen old) worker workers image
-      same-image image tells may = same-store (d.seen old) worker workers floor entries (holds tells)
-          (λ c. get_or ends c 0) fits image may (floor-found tells)
+  bounded-found : IsTrue d.tells → AreBounded (d.seen old)
+  bounded-found tells class page low high =
+      (slabs.found tells).bounded class page low (omega arith)
 
-      -- what isn't kept is freed
-      pub slabs-freed : LeavesOnly (d.calls read) (d.calls freed) (d.leaves read) (d.leaves freed)
-          (AnyMayBeFreed entries (d.seen old) (λ c. get_or ends c 0) floor 12 0)
-          → LeavesOnly (d.calls old) (d.calls freed) (d.leaves old) (d.leaves freed)
-          (KeepsSlabs (d.seen old) worker workers)
-      slabs-freed run = joins (d.calls old) (d.calls read) (d.calls freed) (d.leaves old)
-          (d.leaves read) (d.leaves freed) (KeepsSlabs (d.seen old) worker workers) slabs-read
-          (weaker-told (d.calls read) (d.calls freed) (d.leaves read) (d.leaves freed)
-          (AnyMayBeFreed entries (d.seen old) (λ c. get_or ends c 0) floor 12 0)
-          (KeepsSlabs (d.seen old) worker workers) (IsTrue d.tells)
-          (λ t f p c left. (told freed t f p c left).0) run same-image)
+  -- why no stamp is left
+  pub spent-found : IsTrue d.tells → IsFloor (heads_at all_classes (d.seen old)) floor
+      × AreBounded (d.seen old)
+  spent-found tells = (floor-found tells, bounded-found tells)
 
-      module _ (stacks : List Tail)
-          (frees : FreesAnyBelow d entries (d.seen old) (λ c. get_or ends c 0) floor 12 freed
-          stacks) where
-        freed_may : IsTrue d.tells
-            → AnyMayBeFreed entries (d.seen old) (λ c. get_or ends c 0) floor 12 0 (d.seen freed)
-        freed_may tells = freed-may (d.seen old) worker workers floor entries (holds tells) ends fits
-            (d.seen freed) (frees.seen tells)
+  -- some are left
+  pub left-found : floor < 2 ^ 62 - 1 → IsTrue d.tells → AreBounded (d.seen old)
+      × HasStampsLeft (d.seen old)
+  left-found spare tells = (
+    bounded-found tells,
+    record { floor = floor; floor_is = floor-found tells; spare = spare },
+  )
 
-        -- the disk has the same slabs
-        pub slabs-same : IsTrue d.tells → KeepsSlabs (d.seen old) worker workers (d.seen freed)
-        slabs-same tells = same-image (d.seen freed) tells (freed_may tells)
+  -- each item has its class
+  fits-found : IsTrue d.tells → (class : ℕ) → ItemsFit (d.seen old) class
+  fits-found tells class slot stamp key value stands = elim (class_cases class) [
+    | inl small ↦ (slabs.found tells).fits class small.0 (omega (arith, small.1)) slot stamp key
+        value stands
+    | inr other ↦ elim other [
+      | inl large ↦ (slabs.found tells).fits class (omega (arith, large.0)) (omega (arith, large.1))
+          slot stamp key value stands
+      | inr out ↦ absurd (let never = at_none (d.seen old) class slot out in cc)
+    ]
+  ]
 
-        -- which are opened
-        pub slabs-opened : IsTrue d.tells → d.seen old 0 0 ≡ head_page worker workers
-            → IsOpenedStore (d.seen freed) worker workers entries floor ends stacks
-        slabs-opened tells headed =
-            let all = frees.seen tells in
-            let lists = frees.stacks_are tells in
-            let may = freed_may tells in
-            record {
-              holds = holds-still (d.seen old) worker workers floor entries (holds tells)
-                  (λ c. get_or ends c 0) fits (d.seen freed) may;
-              floor_is = floor-stays (d.seen old) worker workers floor entries (holds tells)
-                  (λ c. get_or ends c 0) fits (d.seen freed) may (floor-found tells);
-              count = omega (arith, lists.count);
-              none = lists.none;
-              lists = λ class stack low has.
-                  let within = get-within stacks stack class has in
-                  let count = lists.count in
-                  let high : class ≤ 11 = omega arith in
-                  has-list (d.seen old) worker workers floor entries (holds tells) ends fits
-                  (d.seen freed) all class low high stack
-                  ((found tells).ends_are class low (omega arith))
-                  (lists.each class stack low has);
-              head = may.others 0 0 (inl refl) ∙ headed;
-              bounded = λ class page low high from. may.past class page from
-                  ∙ (found tells).bounded class page low (omega arith) from;
-            }
+  pub store-found : IsTrue d.tells → HasFoundStore (d.seen old) worker workers entries floor
+  store-found tells = record {
+    holds = holds tells;
+    floor_is = floor-found tells;
+    fits = fits-found tells;
+  }
+
+  entries-stand : IsTrue d.tells → EntriesStand entries (reading_of (d.seen old))
+  entries-stand tells = kept-stand entries (reading_of (d.seen old)) worker workers (holds tells)
+
+  module _ (fits : floor < 2 ^ 64) (freed : D) where
+    same-image : (image : Image) → IsTrue d.tells
+        → AnyMayBeFreed entries (d.seen old) (λ c. get_or ends c 0) floor 12 0 image
+        → KeepsSlabs (d.seen old) worker workers image
+    same-image image tells may = same-store (d.seen old) worker workers floor entries (holds tells)
+        (λ c. get_or ends c 0) fits image may (floor-found tells)
+
+    -- each image keeps the slabs
+    pub slabs-freed : ((first : Image)
+        → HasFreedBelow d entries first (λ c. get_or ends c 0) floor 1 read
+        → (IsTrue d.tells → EntriesStand entries (reading_of first))
+        → LeavesOnly (d.calls read) (d.calls freed) (d.leaves read) (d.leaves freed)
+        (AnyMayBeFreed entries first (λ c. get_or ends c 0) floor 12 0))
+        → LeavesOnly (d.calls old) (d.calls freed) (d.leaves old) (d.leaves freed)
+        (KeepsSlabs (d.seen old) worker workers)
+    slabs-freed run = joins (d.calls old) (d.calls read) (d.calls freed) (d.leaves old)
+        (d.leaves read) (d.leaves freed) (KeepsSlabs (d.seen old) worker workers)
+        (slabs-read d worker workers old read slabs.settled slabs.reads)
+        (weaker-told (d.calls read) (d.calls freed) (d.leaves read) (d.leaves freed)
+        (AnyMayBeFreed entries (d.seen old) (λ c. get_or ends c 0) floor 12 0)
+        (KeepsSlabs (d.seen old) worker workers) (IsTrue d.tells)
+        (λ t f p c left. (slabs.told freed t f p c left).0) (run (d.seen old)
+        (below-start d worker workers old read slabs.settled slabs.reads entries floor ends)
+        entries-stand) same-image)
+
+    module _ (stacks : List Tail)
+        (done : (first : Image)
+        → HasFreedBelow d entries first (λ c. get_or ends c 0) floor 1 read
+        → (IsTrue d.tells → EntriesStand entries (reading_of first))
+        → FreesAnyBelow d entries first (λ c. get_or ends c 0) floor 12 freed stacks) where
+      frees : FreesAnyBelow d entries (d.seen old) (λ c. get_or ends c 0) floor 12 freed stacks
+      frees = done (d.seen old)
+          (below-start d worker workers old read slabs.settled slabs.reads entries floor ends)
+          entries-stand
+
+      freed_may : IsTrue d.tells
+          → AnyMayBeFreed entries (d.seen old) (λ c. get_or ends c 0) floor 12 0 (d.seen freed)
+      freed_may tells = freed-may (d.seen old) worker workers floor entries (holds tells) ends fits
+          (d.seen freed) (frees.seen tells)
+
+      -- the disk has the same slabs
+      pub slabs-same : IsTrue d.tells → KeepsSlabs (d.seen old) worker workers (d.seen freed)
+      slabs-same tells = same-image (d.seen freed) tells (freed_may tells)
+
+      -- which are opened
+      pub slabs-opened : IsTrue d.tells → d.seen old 0 0 ≡ head_page worker workers
+          → IsOpenedStore (d.seen freed) worker workers entries floor ends stacks
+      slabs-opened tells headed =
+          let all = frees.seen tells in
+          let lists = frees.stacks_are tells in
+          let may = freed_may tells in
+          record {
+            holds = holds-still (d.seen old) worker workers floor entries (holds tells)
+                (λ c. get_or ends c 0) fits (d.seen freed) may;
+            floor_is = floor-stays (d.seen old) worker workers floor entries (holds tells)
+                (λ c. get_or ends c 0) fits (d.seen freed) may (floor-found tells);
+            count = omega (arith, lists.count);
+            none = lists.none;
+            lists = λ class stack low has.
+                let within = get-within stacks stack class has in
+                let count = lists.count in
+                let high : class ≤ 11 = omega arith in
+                has-list (d.seen old) worker workers floor entries (holds tells) ends fits
+                (d.seen freed) all class low high stack
+                ((slabs.found tells).ends_are class low (omega arith))
+                (lists.each class stack low has);
+            head = may.others 0 0 (inl refl) ∙ headed;
+            bounded = λ class page low high from. may.past class page from
+                ∙ bounded-found tells class page low high from;
+          }

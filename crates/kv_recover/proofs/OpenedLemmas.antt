@@ -16,7 +16,8 @@ use Rattle.kv_slot.proofs.AgainLemmas.{tombstones_again, large_tombstones_again}
 use Rattle.kv_slot.proofs.PlaceLemmas.{begin_with_stamp}
 use Rattle.kv_recover.specs.SoFar.{so_far}
 use Rattle.kv_recover.specs.Found.{HoldsKept, copy_of}
-use Rattle.kv_recover.specs.Freed.{HasKept, Frees, FreesHeads, KeepsEach}
+use Rattle.kv_model.specs.Recovery.{KeepsEach}
+use Rattle.kv_recover.specs.Freed.{HasKept, Frees, FreesHeads}
 use Rattle.kv_recover.specs.Pass.{IsZeros}
 use Rattle.kv_recover.specs.Large.{AreZeroPages}
 use Rattle.kv_recover.specs.Free.{is_place, is_entry, free_slots, IsFree, reading_of}

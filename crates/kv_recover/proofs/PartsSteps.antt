@@ -1,5 +1,5 @@
 -- The slabs of a prepared disk are opened.
-use Rattle.std.proofs.Common.{◌≡◌, ◌⊎◌, inl, inr, ℕ, ◌<◌, ◌≤◌, List, [], ◌∷◌, refl, sym, lit<}
+use Rattle.std.proofs.Common.{◌≡◌, ◌⊎◌, inl, inr, ℕ, ◌<◌, ◌≤◌, List, [], ◌∷◌, refl, sym, lit<, ap}
 use Rattle.std.proofs.lemmas.Bool.{cases_Bool, false≢true}
 use Rattle.std.proofs.Common.{◌∙◌, subst, arith, IsTrue, zero, suc, get_or, length}
 use Rattle.std.specs.List.{AllByRecursion}
@@ -19,14 +19,16 @@ use Rattle.kv_recover.specs.declared.fault.OpenFault.TheVariants.{DiskFault, NoM
 use Rattle.kv_recover.specs.Causes.{HasSlabCause, HasMakeCause, HasOpenCause}
 use Rattle.kv_recover.specs.Causes.{IsSpared, IsUntouched, AreBounded, HasStampsLeft, IsUsable}
 use Rattle.kv_recover.specs.HeadCheck.{AreBlank}
+use Rattle.kv_recover.specs.Found.{HoldsKept}
 use Rattle.kv_recover.specs.Opened.{KeepsStore, KeepsSlabs, IsOpenedStore, LeftOrKept, IsPrepared}
+use Rattle.kv_recover.specs.Opened.{HasFoundStore}
 use Rattle.kv_recover.proofs.FreeSteps.{Told}
 use Rattle.kv_recover.proofs.OpenSteps.{weaker-told}
 use Rattle.kv_recover.proofs.OpenedLemmas.{class_cases, heads_none}
 use Rattle.kv_recover.proofs.PassLemmas.{heads_at-small}
 use Rattle.kv_recover.proofs.SlabLemmas.{slot-zeros, stamp_zeros}
 use Rattle.kv_recover.proofs.LargeLemmas.{heads_at-large, heads_zero_pages, all_range}
-use Rattle.kv_recover.proofs.PrepareSteps.{same_heads, store-slabs, prepared-headed, prepared-keeps}
+use Rattle.kv_recover.proofs.PrepareSteps.{same_slots, same_heads, store-slabs, prepared-headed, prepared-keeps}
 use Rattle.kv_recover.proofs.PrepareSteps.{prepared-slabs, prepared-opens, prepared-own}
 use Rattle.kv_recover.proofs.PrepareSteps.{prepared-start, class_within}
 
@@ -159,12 +161,20 @@ module _ {D : Type 0} (d : Ghosts D) (told : Told d) (worker workers : ℕ) (old
     parts-cause NoMemory cause = λ tells.
         prepared-start d worker workers old mid tells (prepared tells)
 
-    -- the floor is that of the disk that was handed in
-    pub parts-floor : (floor : ℕ) → (IsTrue d.tells → IsFloor (heads_at all_classes (d.seen mid)) floor)
-        → IsTrue d.tells → IsFloor (heads_at all_classes (d.seen old)) floor
-    parts-floor floor is tells = subst (λ heads. IsFloor heads floor)
-        (same_heads (d.seen mid) (d.seen old)
-        (prepared-slabs d worker workers old mid tells (prepared tells))) (is tells)
+    -- what was found is that of the disk that was handed in
+    pub parts-found : (entries : Entries) (floor : ℕ)
+        → (IsTrue d.tells → HasFoundStore (d.seen mid) worker workers entries floor)
+        → IsTrue d.tells → HasFoundStore (d.seen old) worker workers entries floor
+    parts-found entries floor is tells =
+        let slabs = prepared-slabs d worker workers old mid tells (prepared tells) in
+        let slots = same_slots (d.seen mid) (d.seen old) slabs in
+        record {
+          holds = subst (λ r. HoldsKept entries r worker workers) slots (is tells).holds;
+          floor_is = subst (λ heads. IsFloor heads floor)
+              (same_heads (d.seen mid) (d.seen old) slabs) (is tells).floor_is;
+          fits = λ class slot stamp key value stands. (is tells).fits class slot stamp key value
+              (ap (λ r. r class slot) slots ∙ stands);
+        }
 
     -- what was written to can be used
     pub parts-written : OnlyReads d mid new
@@ -185,7 +195,10 @@ module _ {D : Type 0} (d : Ghosts D) (told : Told d) (worker workers : ℕ) (old
           (left tells).0;
       left = record {
         floor = (left tells).1.floor;
-        floor_is = parts-floor (left tells).1.floor (λ _. (left tells).1.floor_is) tells;
+        floor_is = subst (λ heads. IsFloor heads (left tells).1.floor)
+            (same_heads (d.seen mid) (d.seen old)
+            (prepared-slabs d worker workers old mid tells (prepared tells)))
+            (left tells).1.floor_is;
         spare = (left tells).1.spare;
       };
     })

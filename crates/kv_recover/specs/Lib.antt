@@ -12,6 +12,7 @@ pub mod HeadCheck
 pub mod Causes
 pub mod Faults
 pub mod Listed
+pub mod Writes
 pub mod Store
 pub mod Kinds
 pub mod Survey

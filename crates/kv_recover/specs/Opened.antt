@@ -12,7 +12,7 @@ use Rattle.kv_model.specs.Reading.{slot_at, heads_at, small_slot, large_slot, Is
 use Rattle.kv_recover.specs.Free.{free_slots}
 use Rattle.kv_recover.specs.Freed.{KeepsSame}
 use Rattle.kv_recover.specs.Found.{HoldsKept}
-use Rattle.kv_recover.specs.Pass.{IsSlabEnd, HasFoundBelow}
+use Rattle.kv_recover.specs.Pass.{IsSlabEnd, HasFoundBelow, ItemsFit}
 use Rattle.kv_recover.specs.Large.{IsLargeSlabEnd}
 use Rattle.kv_recover.specs.Causes.{AreBounded, IsUntouched}
 use Rattle.kv_recover.specs.Lists.{IsFreeList, HasLinks}
@@ -60,6 +60,15 @@ pub record FindsAllBelow (image : Image) (worker workers class : ℕ) (entries :
   pub ends_are : (c : ℕ) → 1 ≤ c → c < class → IsEndOf image c (slice_index ends c)
   pub bounded : (c page : ℕ) → 1 ≤ c → c < class → most_pages c ≤ page
       → image c page ≡ zero_page
+  pub fits : (c : ℕ) → 1 ≤ c → c < class → ItemsFit image c
+
+-- what was found on the image: the index has the items that are kept, the number is the floor, and
+-- each item has the least class that holds it
+pub record HasFoundStore (image : Image) (worker workers : ℕ) (entries : Entries)
+    (floor : ℕ) : Type 0 where
+  pub holds : HoldsKept entries (slot_at all_classes image) worker workers
+  pub floor_is : IsFloor (heads_at all_classes image) floor
+  pub fits : (class : ℕ) → ItemsFit image class
 
 -- what a class has after opening: its end, and its list, which the stack stands for
 pub record HasClassList (image : Image) (worker workers : ℕ) (entries : Entries)

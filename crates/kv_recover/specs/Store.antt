@@ -20,6 +20,7 @@ use Rattle.kv_recover.specs.Faults.{faults_after}
 use Rattle.kv_recover.specs.Found.{HoldsKept}
 use Rattle.kv_recover.specs.Opened.{KeepsStore, LeftOrKept, IsOpenedStore, HasClassList}
 use Rattle.kv_recover.specs.Placed.{HasRooms}
+use Rattle.kv_recover.specs.Writes.{HasWrites}
 
 -- these are the parts of an opened store
 pub record AreParts {D : Type 0} (d : disks.Ghosts D) (disk : D) (entries : Entries)
@@ -52,6 +53,7 @@ pub record HasOpened {D I : Type 0} (d : disks.Ghosts D) (i : indexes.Ghosts I) 
       → slice_get store.rooms class ≡ Some room
       → HasClassList (d.seen store.disk.disk) worker workers (i.entries store.index) floor class
       room.end room.stack
+  pub kept : HasWrites d i old worker workers store floor
   pub keeps : IsTrue d.tells → KeepsStore (d.seen old) worker workers (d.seen store.disk.disk)
   pub durable : Only (d.seen store.disk.disk)
       (d.leaves store.disk.disk (d.calls store.disk.disk))

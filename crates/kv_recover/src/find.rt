@@ -1,6 +1,6 @@
-ghost use Rattle.std.specs.Prelude.{◌≡◌, ℕ, ◌+◌, ◌*◌, ◌-◌, ◌^◌, ◌<◌, ◌≤◌, ◌≢◌, IsTrue, OnOk, IfOk};
+ghost use Rattle.std.specs.Prelude.{◌≡◌, ℕ, ◌+◌, ◌*◌, ◌-◌, ◌^◌, ◌<◌, ◌≤◌, ◌≢◌, IsTrue, OnOk, IfOk, length};
 ghost use Rattle.std.specs.Prelude.{IfErr};
-ghost use Rattle.kv_base.specs.Image.{zero_page};
+ghost use Rattle.kv_base.specs.Image.{zero_page, page_size};
 ghost use Rattle.kv_model.specs.Layout.{slots_in_page};
 ghost use Rattle.kv_model.specs.Recovery.{most_pages};
 ghost use Rattle.std.specs.Prelude.{slice_index, max};
@@ -65,6 +65,7 @@ fn find_in_page<D: Disk, I: Index>(
     ensures counted { OnOk result (HasCounts (I.entries items.new.index) items.new.counts) }
     ensures cause { IfErr result (HasReadCause ⊥) }
     ensures faults { AreFaultsCounted (D.faults disk.old) (D.faults disk.new) result }
+    ensures whole { IsTrue D.tells → OnOk result (length (D.seen disk.old class number) ≡ page_size) }
 {
     let mut page = [0; 4096];
     read_page(disk, class, number, &mut page)?;
@@ -97,6 +98,8 @@ fn find_in_pages<D: Disk, I: Index>(
     ensures counted { OnOk result (HasCounts (I.entries items.new.index) items.new.counts) }
     ensures cause { IfErr result (HasReadCause ⊥) }
     ensures faults { AreFaultsCounted (D.faults disk.old) (D.faults disk.new) result }
+    ensures whole { IsTrue D.tells → OnOk result ((page : ℕ) → page < pages
+        → length (D.seen disk.old class page) ≡ page_size) }
 {
     let mut seen = Seen { floor, end: 0 };
     for number in 0..pages {

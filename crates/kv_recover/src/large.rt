@@ -2,7 +2,7 @@ ghost use Rattle.std.specs.Prelude.{◌≡◌, ◌⊎◌, ℕ, ◌+◌, ◌*◌,
 ghost use Rattle.std.specs.Prelude.{IsTrue, OnOk, IfOk, IfErr, length, map, max};
 ghost use Rattle.std.specs.List.{range_with_len};
 ghost use Rattle.kv_base.specs.Fault.{Counted};
-ghost use Rattle.kv_base.specs.Image.{Image, zero_page};
+ghost use Rattle.kv_base.specs.Image.{Image, zero_page, page_size};
 ghost use Rattle.kv_disk.specs.Steps.{OnlyReads};
 ghost use Rattle.kv_model.specs.Layout.{pages_in_slot};
 ghost use Rattle.kv_model.specs.Reading.{large_slot};
@@ -12,7 +12,7 @@ ghost use Rattle.kv_slot.specs.Views.{read_front};
 ghost use Rattle.kv_recover.specs.Causes.{HasReadCause};
 ghost use Rattle.kv_recover.specs.Faults.{AreFaultsCounted};
 ghost use Rattle.kv_recover.specs.Found.{with_slot};
-ghost use Rattle.kv_recover.specs.Large.{IsLater, slot_from, HasFoundLarge, FindsLargeClass};
+ghost use Rattle.kv_recover.specs.Large.{IsLater, slot_from, HasFoundLarge, FindsLargeClass, IsWholeSlot};
 ghost use Rattle.kv_recover.specs.Pass.{IsPast};
 ghost use Rattle.kv_recover.specs.Placed.{HasCounts, ArePlaced, with_end};
 
@@ -93,6 +93,8 @@ pub fn read_later<D: Disk>(
         later.whole later.blank later.floor) }
     ensures floor { IfOk result (λ later. floor ≤ later.floor) }
     ensures counted { Counted (D.faults disk.old) (D.faults disk.new) result }
+    ensures whole { IsTrue D.tells → OnOk result ((k : ℕ) → k < count
+        → length (D.seen disk.old class (first + k)) ≡ page_size) }
 {
     let mut later = Later {
         whole: true,
@@ -200,6 +202,7 @@ fn find_large_at<D: Disk, I: Index>(
     ensures counted { OnOk result (HasCounts (I.entries items.new.index) items.new.counts) }
     ensures cause { IfErr result (HasReadCause ⊥) }
     ensures faults { AreFaultsCounted (D.faults disk.old) (D.faults disk.new) result }
+    ensures whole { IsTrue D.tells → OnOk result (IsWholeSlot (D.seen disk.old) place.class place.slot) }
 {
     let (first, _) = spot(place);
     let count = pages_in_slot(place.class);
@@ -238,6 +241,8 @@ fn find_large_slots<D: Disk, I: Index>(
     ensures counted { OnOk result (HasCounts (I.entries items.new.index) items.new.counts) }
     ensures cause { IfErr result (HasReadCause ⊥) }
     ensures faults { AreFaultsCounted (D.faults disk.old) (D.faults disk.new) result }
+    ensures whole { IsTrue D.tells → OnOk result ((slot : ℕ) → slot < slots
+        → IsWholeSlot (D.seen disk.old) class slot) }
 {
     let mut seen = Seen { floor, end: 0 };
     for slot in 0..slots {

@@ -6,14 +6,13 @@ ghost use Rattle.kv_base.specs.Image.{Image};
 ghost use Rattle.kv_disk.specs.Steps.{OnlyReads};
 ghost use Rattle.kv_model.specs.Head.{head_page};
 ghost use Rattle.kv_model.specs.Layout.{all_classes};
-ghost use Rattle.kv_model.specs.Reading.{heads_at, IsFloor};
 ghost use Rattle.kv_model.specs.Recovery.{OpensAs};
 ghost use Rattle.kv_recover.specs.Causes.{HasReadCause, HasSlabCause, HasOpenCause, IsSpared};
 ghost use Rattle.kv_recover.specs.Causes.{AreBounded, IsUntouched, HasStampsLeft, IsUsable};
 ghost use Rattle.kv_recover.specs.Faults.{AreFaultsCounted};
 ghost use Rattle.kv_recover.specs.Free.{HasFreedBelow, reading_of};
 ghost use Rattle.kv_recover.specs.FreeLarge.{AnyMayBeFreed, FreesAnyBelow, EntriesStand};
-ghost use Rattle.kv_recover.specs.Opened.{FindsAllBelow, KeepsSlabs, IsOpenedStore};
+ghost use Rattle.kv_recover.specs.Opened.{FindsAllBelow, KeepsSlabs, IsOpenedStore, HasFoundStore};
 ghost use Rattle.kv_recover.specs.Opened.{KeepsStore, LeftOrKept};
 ghost use Rattle.kv_recover.specs.Pass.{IsPast};
 ghost use Rattle.kv_recover.specs.Placed.{HasCounts, ArePlaced, HasRooms};
@@ -155,8 +154,8 @@ pub fn open_slabs<D: Disk, I: Index>(
     ensures opened { IsTrue D.tells → IfOk result (λ opened. IsOpenedStore (D.seen disk.new)
         share.worker share.workers (I.entries items.new.index) opened.floor opened.ends
         opened.stacks.items) }
-    ensures floor_was { IsTrue D.tells → IfOk result (λ opened. IsFloor
-        (heads_at all_classes (D.seen disk.old)) opened.floor) }
+    ensures found { IsTrue D.tells → IfOk result (λ opened. HasFoundStore (D.seen disk.old)
+        share.worker share.workers (I.entries items.new.index) opened.floor) }
     ensures same { IsTrue D.tells → OnOk result (KeepsSlabs (D.seen disk.old) share.worker
         share.workers (D.seen disk.new)) }
     ensures durable { OnOk result (Only (D.seen disk.new) (D.leaves disk.new (D.calls disk.new))) }
@@ -206,8 +205,8 @@ pub fn open_parts<D: Disk, I: Index>(
         opened.stacks.items) }
     ensures opens { IsTrue D.tells → OnOk result (OpensAs all_classes (D.seen disk.old)
         share.worker share.workers) }
-    ensures floor_was { IsTrue D.tells → IfOk result (λ opened. IsFloor
-        (heads_at all_classes (D.seen disk.old)) opened.floor) }
+    ensures found { IsTrue D.tells → IfOk result (λ opened. HasFoundStore (D.seen disk.old)
+        share.worker share.workers (I.entries items.new.index) opened.floor) }
     ensures same { IsTrue D.tells → OnOk result (KeepsStore (D.seen disk.old) share.worker
         share.workers (D.seen disk.new)) }
     ensures durable { OnOk result (Only (D.seen disk.new) (D.leaves disk.new (D.calls disk.new))) }

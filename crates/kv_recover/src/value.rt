@@ -5,7 +5,7 @@ ghost use Rattle.kv_model.specs.Layout.{all_classes};
 ghost use Rattle.kv_model.specs.Reading.{IsKept, slot_at};
 ghost use Rattle.kv_model.specs.Slots.{Item as Stored};
 ghost use Rattle.kv_slot.specs.Views.{what_stands, what_stands_large};
-ghost use Rattle.kv_recover.specs.Faults.{StepCounted};
+ghost use Rattle.kv_slab.specs.Fault.{StepCounted};
 ghost use Rattle.kv_recover.specs.Listed.{IsSlabPlace, copy_with};
 
 use crate::entries::Kept;

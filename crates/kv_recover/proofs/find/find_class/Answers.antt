@@ -1,5 +1,5 @@
 -- The length, the pages that may have slots, and the pages past them.
-use Rattle.std.proofs.Common.{◌*◌, sym, ap, ◌∙◌, subst}
+use Rattle.std.proofs.Common.{◌*◌, sym, ap, ◌∙◌, subst, length}
 use Rattle.kv_model.specs.Layout.{slots_in_page}
 use Rattle.kv_recover.specs.Pass.{HasFound}
 use Rattle.kv_recover.proofs.SlabLemmas.{finds-class}
@@ -32,6 +32,8 @@ returns-clause-found g c = λ tells.
     (λ page from below. ap (λ image. image c.args.class page) (sym first)
     ∙ ap (λ image. image c.args.class page) (sym second)
     ∙ c.in_ok-check_blanks.ensures.ok tells page from below)
+    (λ page below. ap (λ image. length (image c.args.class page)) (sym first)
+    ∙ c.in_ok-seen.ensures.whole tells page below)
     (subst (λ image. HasFound image c.args.share.worker c.args.share.workers c.args.class 0
     (g.I.Index.entries c.args.items.now.index) c.args.floor 0
     → HasFound image c.args.share.worker c.args.share.workers c.args.class

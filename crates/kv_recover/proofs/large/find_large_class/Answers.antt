@@ -2,10 +2,11 @@
 use Rattle.std.proofs.Common.{◌≡◌, inl, inr, ℕ, ◌*◌, ◌≤◌, ◌^◌, sym, ap, ◌∙◌, subst, arith}
 use Rattle.std.proofs.Math.Nat.{mul-le-mul_right}
 use Rattle.kv_model.specs.Layout.{pages_in_slot}
-use Rattle.kv_recover.specs.Large.{HasFoundLarge}
+use Rattle.kv_recover.specs.Large.{HasFoundLarge, IsWholeSlot}
 use Rattle.kv_recover.proofs.LargeLemmas.{finds-large-class}
 use Rattle.kv_disk.proofs.StepsLemmas.{reads-then}
 use Rattle.kv_recover.proofs.large.find_large_class.Goals as goal
+use Rattle.kv_recover.proofs.WholeLemmas.{large-item}
 
 pub returns-in_err-seen-clause-reads : goal.returns-in_err-seen-clause-reads
 returns-in_err-seen-clause-reads g c =
@@ -56,6 +57,9 @@ returns-clause-found g c = λ tells.
     (λ page from below. ap (λ image. image c.args.class page) (sym first)
     ∙ ap (λ image. image c.args.class page) (sym second)
     ∙ c.in_ok-check_blanks.ensures.ok tells page from below)
+    (λ slot below. large-item (g.D.Disk.seen c.args.disk.now) c.args.class slot c.requires.class.0
+    c.requires.class.1 (subst (λ image. IsWholeSlot image c.args.class slot) first
+    (c.in_ok-seen.ensures.whole tells slot below)))
     (subst (λ image. HasFoundLarge image c.args.share.worker c.args.share.workers c.args.class 0
     (g.I.Index.entries c.args.items.now.index) c.args.floor 0
     → HasFoundLarge image c.args.share.worker c.args.share.workers c.args.class

@@ -4,7 +4,7 @@ use Rattle.kv_recover.specs.Causes.{HasOpenCause, IsSpared}
 use Rattle.kv_recover.proofs.CauseLemmas.{handed, on_err}
 use Rattle.kv_recover.proofs.PrepareSteps.{prepared-headed}
 use Rattle.kv_recover.proofs.PartsSteps.{parts-moments, parts-same, parts-opens, parts-cause}
-use Rattle.kv_recover.proofs.PartsSteps.{parts-spared, parts-written, parts-floor, usable-new}
+use Rattle.kv_recover.proofs.PartsSteps.{parts-spared, parts-written, parts-found, usable-new}
 use Rattle.kv_recover.proofs.PartsSteps.{prepare-cause}
 use Rattle.kv_recover.proofs.open.open_parts.Goals as goal
 
@@ -75,8 +75,9 @@ returns-in_err-parts-clause-written g c = on_err c.from_residual-in_err-parts.re
     c.args.disk.now c.prepare.new.disk c.open_slabs.new.disk c.in_ok-prepare.ensures.prepared
     c.requires.below c.requires.limit c.in_err-parts.ensures.written)
 
-pub returns-clause-floor_was : goal.returns-clause-floor_was
-returns-clause-floor_was g c = parts-floor g.D.Disk g.met.D.Disk.told c.args.share.worker
+pub returns-clause-found : goal.returns-clause-found
+returns-clause-found g c = parts-found g.D.Disk g.met.D.Disk.told c.args.share.worker
     c.args.share.workers c.args.disk.now c.prepare.new.disk c.open_slabs.new.disk
-    c.in_ok-prepare.ensures.prepared c.requires.below c.requires.limit c.in_ok-parts.parts.floor
-    c.in_ok-parts.ensures.floor_was
+    c.in_ok-prepare.ensures.prepared c.requires.below c.requires.limit
+    (g.I.Index.entries c.open_slabs.new.items.index) c.in_ok-parts.parts.floor
+    c.in_ok-parts.ensures.found

@@ -1,17 +1,18 @@
 -- An image that opens keeps one of the items of each key.
-use Rattle.std.proofs.Common.{◌≡◌, ◌⊎◌, inl, inr, ℕ, zero, suc, ◌+◌, ◌*◌, ◌/◌, ◌^◌, ◌<◌, ◌≤◌}
-use Rattle.std.proofs.Common.{List, Option, None, Some, refl, sym, ap, ◌∙◌, subst, arith, add-one}
+use Rattle.std.proofs.Common.{◌≡◌, inl, inr, ℕ, zero, suc, ◌+◌, ◌*◌, ◌/◌, ◌≤◌}
+use Rattle.std.proofs.Common.{None, Some, refl, sym, ◌∙◌, subst, arith, add-one, pow_pos, true, false, ◌-◌}
 use Rattle.std.proofs.lemmas.Bool.{cases_lt, cases_eq, cond-true, cond-false, le-leb, lt-leb}
-use Rattle.std.proofs.Math.Nat.{mul-le-mul_right, le-div_iff_mul-le, div-mul-le_self, pow_pos}
+use Rattle.std.proofs.Math.Nat.{mul-le-mul_right, le-div_iff_mul-le, div-mul-le_self}
 use Rattle.std.specs.FinMap as finite
-use Rattle.kv_base.specs.Image.{Image, zero_page}
+use Rattle.kv_base.specs.Image.{Image}
+use Rattle.kv_index.specs.declared.entry.Entry.{Entry}
 use Rattle.kv_index.specs.Entries.{Entries}
 use Rattle.kv_model.specs.Layout.{all_classes, is_small, slots_in_page, pages_in_slot}
 use Rattle.kv_model.specs.Reading.{Reading, slot_at, small_slot, large_slot, page_of}
 use Rattle.kv_model.specs.Recovery.{OpensAs, KeepsEach, most_pages, most_slots}
-use Rattle.kv_model.specs.Slots.{Slot, Never, read_small, read_large}
+use Rattle.kv_model.specs.Slots.{Never}
 use Rattle.kv_recover.specs.Found.{HoldsKept, copy_of, with_slot}
-use Rattle.kv_recover.specs.SoFar.{IsBefore, so_far}
+use Rattle.kv_recover.specs.SoFar.{so_far}
 use Rattle.kv_recover.proofs.EntryLemmas.{option_cases}
 use Rattle.kv_recover.proofs.FoundLemmas.{Grows, holds-slot}
 use Rattle.kv_recover.proofs.LargeLemmas.{slot_at-large, all_range, read_zero_pages}
@@ -19,6 +20,9 @@ use Rattle.kv_recover.proofs.OpenedLemmas.{class_cases, at_none, all-slots}
 use Rattle.kv_recover.proofs.PassLemmas.{has_class-some, slot_at-small}
 use Rattle.kv_recover.proofs.SlabLemmas.{slot-zeros, read_zeros}
 use Rattle.kv_recover.proofs.SoFarLemmas.{so_far-here, so_far-others, so_far-behind, so_far-same}
+
+some_entry : (entry : Entry) → None ≡ Some entry → ⊥
+some_entry entry e = cc
 
 -- the index of what is kept in the slots before the place
 Finds : Reading → ℕ → ℕ → ℕ → ℕ → Type 0
@@ -73,7 +77,7 @@ module _ (reading : Reading) (worker workers most : ℕ)
   find-none = (
     finite.empty,
     record {
-      each = λ key entry has. absurd (cc);
+      each = λ key entry has. absurd (some_entry entry (sym (finite.get-empty _ key) ∙ has));
       none = λ key none copy found. absurd (
           let never : so_far (Never 0) reading 0 0 copy.class copy.slot ≡ Never 0 =
           so_far-behind (Never 0) reading 0 0 copy.class copy.slot

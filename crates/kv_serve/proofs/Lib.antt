@@ -1,3 +1,4 @@
 pub mod FoundLemmas
 pub mod OpeningLemmas
 pub mod ServeLemmas
+pub mod StartLemmas

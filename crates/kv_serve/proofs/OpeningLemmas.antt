@@ -1,15 +1,15 @@
 -- What a crash leaves of a disk that is opened and served.
-use Rattle.std.proofs.Common.{◌≡◌, ◌⊎◌, inl, inr, ℕ, ◌+◌, ◌<◌, ◌≤◌, ◌^◌, List, [], ◌∷◌, ◌++◌, IsTrue}
-use Rattle.std.proofs.Common.{sym, subst, arith, cons_option, append_assoc}
-use Rattle.std.specs.List.{AllByRecursion}
-use Rattle.kv_base.specs.Crash.{LeavesOnly, MayLeave, Only}
+use Rattle.std.proofs.Common.{◌≡◌, inl, inr, ℕ, ◌+◌, ◌<◌, ◌≤◌, ◌^◌, List, [], ◌∷◌, ◌++◌, IsTrue}
+use Rattle.std.proofs.Common.{sym, subst, arith, append_assoc}
+use Rattle.std.specs.List.{AllByRecursion, cons_option}
+use Rattle.kv_base.specs.Crash.{Only}
 use Rattle.kv_base.specs.Image.{Image}
 use Rattle.kv_base.specs.declared.reply.Reply.{Reply}
 use Rattle.kv_base.specs.declared.reply.Reply.TheVariants.{Stored, Found, Missing, Removed, Absent}
 use Rattle.kv_base.specs.declared.reply.Reply.TheVariants.{Unsure}
 use Rattle.kv_base.specs.declared.request.Request.{Request}
 use Rattle.kv_base.specs.declared.request.Request.TheVariants.{Put, Get, Delete, Flush}
-use Rattle.kv_base.proofs.CrashLemmas.{joins}
+use Rattle.kv_base.proofs.CrashLemmas.{joins, weaker}
 use Rattle.kv_base.proofs.ImageLemmas.{only_image}
 use Rattle.kv_disk.specs.declared.disk.Disk.{Ghosts}
 use Rattle.kv_model.specs.Agreement.{AgreesWithMap}
@@ -25,7 +25,7 @@ use Rattle.kv_recover.specs.Opened.{KeepsStore, LeftOrKept}
 use Rattle.kv_recover.proofs.FreeSteps.{Told}
 use Rattle.kv_recover.proofs.OpenSteps.{weaker-told}
 use Rattle.kv_serve.specs.Answers.{Recovers}
-use Rattle.kv_serve.specs.Opening.{Opens, HadItems}
+use Rattle.kv_serve.specs.Opening.{Opens, HadItems, LeavesAll}
 use Rattle.kv_serve.proofs.FoundLemmas.{keeps-each}
 
 module _ (before : List Write) (floor : ℕ)
@@ -103,8 +103,8 @@ writes-above floor [] above = (tt, tt)
 writes-above floor (pair ∷ pairs) above = with-pair pair.reply pair.request floor (stamps pairs)
     (writes pairs) (unsure_writes pairs) above (writes-above floor pairs)
 
-module _ {D : Type 0} (d : Ghosts D) (told : Told d) (disk opened : D) (before : List Write)
-    (floor : ℕ) (had : HadItems d disk before floor) (opens : Opens d disk opened) where
+module _ {D : Type 0} (d : Ghosts D) (disk opened : D) (before : List Write) (floor : ℕ)
+    (had : HadItems d disk before floor) where
   left-recovers : Only (d.seen disk) (d.leaves disk (d.calls disk)) → (image : Image)
       → IsTrue d.tells → LeftOrKept d disk 0 1 image
       → RecoversPrefix all_classes before before image 0 1
@@ -115,22 +115,27 @@ module _ {D : Type 0} (d : Ghosts D) (told : Told d) (disk opened : D) (before :
   left-recovers only image tells (inr keeps) = recovers-kept before floor had.below (d.seen disk)
       image (had.opens tells) (had.kept tells) keeps
 
-  -- what is served behind an opening of a disk with nothing pending leaves a prefix of its writes,
-  -- from the disk on as it was taken
+  -- each moment of the opening of a disk with nothing pending leaves all writes
+  pub opening-recovers : Told d → Opens d disk opened
+      → Only (d.seen disk) (d.leaves disk (d.calls disk)) → LeavesAll d disk opened before
+  opening-recovers told opens only =
+      weaker-told (d.calls disk) (d.calls opened) (d.leaves disk) (d.leaves opened)
+      (LeftOrKept d disk 0 1) (λ image. RecoversPrefix all_classes before before image 0 1)
+      (IsTrue d.tells) (λ t f p c left. (told opened t f p c left).0) opens.any_moment
+      (left-recovers only)
+
+  -- with what is served behind that each moment leaves a prefix of the writes
   pub recovers-all : (disk' : D) (pairs : List Pair)
-      → AgreesWithMap d.tells all_classes before floor pairs
-      → Recovers d opened disk' before pairs
-      → Only (d.seen disk) (d.leaves disk (d.calls disk)) → Recovers d disk disk' before pairs
-  recovers-all disk' pairs agrees recovers only = record {
+      → AgreesWithMap d.tells all_classes before floor pairs → LeavesAll d disk opened before
+      → Recovers d opened disk' before pairs → Recovers d disk disk' before pairs
+  recovers-all disk' pairs agrees opening recovers = record {
     any_moment = joins (d.calls disk) (d.calls opened) (d.calls disk') (d.leaves disk)
         (d.leaves opened) (d.leaves disk') (λ image. RecoversPrefix all_classes
         (before ++ writes pairs ++ unsure_writes pairs) before image 0 1)
-        (weaker-told (d.calls disk) (d.calls opened) (d.leaves disk) (d.leaves opened)
-        (LeftOrKept d disk 0 1) (λ image. RecoversPrefix all_classes
-        (before ++ writes pairs ++ unsure_writes pairs) before image 0 1) (IsTrue d.tells)
-        (λ t f p c left. (told opened t f p c left).0) opens.any_moment
-        (λ image tells kept. longer image (left-recovers only image tells kept)))
-        recovers.any_moment;
+        (weaker (d.calls disk) (d.calls opened) (d.leaves disk) (d.leaves opened)
+        (λ image. RecoversPrefix all_classes before before image 0 1)
+        (λ image. RecoversPrefix all_classes (before ++ writes pairs ++ unsure_writes pairs)
+        before image 0 1) opening longer) recovers.any_moment;
     exit = recovers.exit;
   } where
     above : AreFrom (floor + 1) (writes pairs) × AreFrom (floor + 1) (unsure_writes pairs)

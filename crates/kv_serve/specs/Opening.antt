@@ -8,7 +8,7 @@ use Rattle.kv_index.specs.declared.index.Index as indexes
 use Rattle.kv_model.specs.History.{Write}
 use Rattle.kv_model.specs.Layout.{all_classes}
 use Rattle.kv_model.specs.Reading.{heads_at, IsFloor}
-use Rattle.kv_model.specs.Recovery.{OpensAs, AreKept}
+use Rattle.kv_model.specs.Recovery.{OpensAs, AreKept, RecoversPrefix}
 use Rattle.kv_recover.specs.Opened.{KeepsStore, LeftOrKept}
 use Rattle.kv_recover.specs.Store.{HasRefused}
 use Rattle.kv_recover.specs.declared.fault.OpenFault.{OpenFault}
@@ -41,7 +41,13 @@ pub record HadItems {D : Type 0} (d : disks.Ghosts D) (disk : D) (before : List 
   pub below : AllByRecursion (λ write. write.stamp ≤ floor) before
   pub spare : floor < 2 ^ 62 - 1
 
--- the worker was made of the disk as it was taken, and begins with what stood on it
+-- at each moment between the two disks a crash leaves of each key the value after all of the writes
+abbrev pub LeavesAll : {D : Type 0} → disks.Ghosts D → D → D → List Write → Type 0
+LeavesAll d old new before = LeavesOnly (d.calls old) (d.calls new) (d.leaves old) (d.leaves new)
+    (λ image. RecoversPrefix all_classes before before image 0 1)
+
+-- the worker was made of the disk as it was taken, and begins with what stood on it; if nothing was
+-- pending there, that was left at each moment of the opening
 pub record Starts {D I : Type 0} (d : disks.Ghosts D) (i : indexes.Ghosts I) (disk : D)
     (worker : WorkerView D I) : Type 0 where
   pub before : List Write
@@ -49,6 +55,8 @@ pub record Starts {D I : Type 0} (d : disks.Ghosts D) (i : indexes.Ghosts I) (di
   pub had : HadItems d disk before floor
   pub begins : Begins d i worker before floor
   pub opens : Opens d disk worker.store.disk.disk
+  pub settled : Only (d.seen disk) (d.leaves disk (d.calls disk))
+      → LeavesAll d disk worker.store.disk.disk before
   pub limits_are : worker.store.limits ≡ default_limits
 
 -- the disk was refused, or memory ran out behind its opening

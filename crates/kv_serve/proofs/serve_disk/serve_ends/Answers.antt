@@ -1,5 +1,5 @@
 -- All came back as it was taken where memory ran out; else the session is served.
-use Rattle.std.proofs.Common.{◌≡◌, IsTrue, refl, sym, ◌∙◌, inr}
+use Rattle.std.proofs.Common.{◌≡◌, IsTrue, sym, ◌∙◌, inr}
 use Rattle.kv_serve.proofs.ServeLemmas.{sessions-kept, pair_is}
 use Rattle.kv_serve.proofs.serve_disk.serve_ends.Goals as goal
 

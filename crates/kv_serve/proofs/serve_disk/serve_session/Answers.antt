@@ -39,9 +39,9 @@ returns g c before between folder n disk taken session_taken starts risen =
               starts.before starts.floor did.0 starts.opens.calm
               (subst (λ limits. HasAnswers g.S.Pages.Disk c.args.worker.store.disk.disk
               served.disk limits.slots starts.before starts.floor did.0) starts.limits_are did.2);
-          settled = recovers-all g.S.Pages.Disk g.met.S.Pages.Disk.told disk
-              c.args.worker.store.disk.disk starts.before starts.floor starts.had starts.opens
-              served.disk (pairs_in did.0) did.2.agrees did.3;
+          settled = λ only. recovers-all g.S.Pages.Disk disk c.args.worker.store.disk.disk
+              starts.before starts.floor starts.had served.disk (pairs_in did.0) did.2.agrees
+              (starts.settled only) did.3;
           exit = did.3.exit;
           status_is = c.status_of-status.ensures ∙ ap (served_status served.ending.cause) did.4;
           calm = c.give_both_back.ensures.still ∙ sym risen;

@@ -1,5 +1,5 @@
 -- The disk came back where the site refused the session; else the session is served over it.
-use Rattle.std.proofs.Common.{IsTrue, Err, ap, sym, ◌∙◌}
+use Rattle.std.proofs.Common.{IsTrue, ap, sym, ◌∙◌}
 use Rattle.kv_base.specs.Calls.{next_count}
 use Rattle.kv_serve.proofs.ServeLemmas.{refuses-session}
 use Rattle.kv_serve.proofs.serve_disk.serve_worker.Goals as goal

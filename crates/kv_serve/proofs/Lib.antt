@@ -1,8 +1,4 @@
-pub mod HistoryLemmas
-pub mod ItemLemmas
-pub mod PagesLemmas
-pub mod RunLemmas
-pub mod SessionLemmas
-pub mod StoreLemmas
-pub mod AnswerLemmas
+pub mod FoundLemmas
+pub mod OpeningLemmas
 pub mod ServeLemmas
+pub mod StartLemmas

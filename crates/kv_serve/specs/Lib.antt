@@ -1,12 +1,5 @@
-pub mod Transcript
-pub mod Pages
-pub mod Causes
-pub mod Placed
-pub mod Content
-pub mod Store
-pub mod Open
-pub mod Session
-pub mod Run
 pub mod Answers
-pub mod Words
+pub mod Begins
+pub mod Opening
 pub mod Serve
+pub mod Words

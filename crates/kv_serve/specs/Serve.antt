@@ -1,60 +1,33 @@
 -- What the command `serve` does, from the site as it was to the site as it is.
-use Rattle.std.specs.Prelude.{◌≡◌, ◌≢◌, ℕ, ◌⊎◌, List, [], ◌∷◌, length, Option, None, Some}
-use Rattle.std.specs.Prelude.{Bool, true, false, IsTrue, if◌then◌else◌}
-use Rattle.kv_base.specs.declared.request.Request.{Request}
-use Rattle.kv_base.specs.declared.reply.Reply.{Reply}
+use Rattle.std.specs.Prelude.{◌≡◌, ◌≢◌, ℕ, ◌⊎◌, List, [], ◌∷◌, ◌++◌, Option}
+use Rattle.std.specs.Prelude.{None, Some, Bool, true, false, IsTrue, if◌then◌else◌}
 use Rattle.kv_base.specs.declared.cause.Cause.{Cause}
 use Rattle.kv_base.specs.declared.cause.Cause.TheVariants.{End, Malformed, Limit, SourceFault}
 use Rattle.kv_base.specs.declared.cause.Cause.TheVariants.{SinkFault}
-use Rattle.kv_base.specs.Fault.{Rose}
-use Rattle.kv_base.specs.Image.{with_page}
-use Rattle.kv_base.specs.Stream.{Passes, IsSpent, Takes}
+use Rattle.kv_base.specs.Calls.{next_count}
+use Rattle.kv_base.specs.Crash.{MayLeave, Only}
+use Rattle.kv_base.specs.Image.{Image}
+use Rattle.kv_base.specs.declared.sink.Sink as sinks
+use Rattle.kv_base.specs.declared.source.Source as sources
 use Rattle.kv_disk.specs.declared.disk.Disk.{Ghosts}
-use Rattle.kv_base.specs.Crash.{Same}
-use Rattle.kv_model.specs.Head.{head_page}
+use Rattle.kv_model.specs.History.{Write}
+use Rattle.kv_model.specs.Layout.{all_classes}
+use Rattle.kv_model.specs.Pairs.{Pair, pairs_in, writes, unsure_writes}
+use Rattle.kv_model.specs.Recovery.{RecoversPrefix}
+use Rattle.kv_recover.specs.Store.{HasRefused}
+use Rattle.kv_recover.specs.declared.fault.OpenFault.{OpenFault}
+use Rattle.kv_recover.specs.declared.fault.OpenFault.TheVariants as faults
+use Rattle.kv_session.specs.Passage.{Streams, HasSession}
+use Rattle.kv_session.specs.declared.ending.Ending.{Ending}
 use Rattle.kv_site.specs.Held.{Held}
 use Rattle.kv_site.specs.declared.fault.TakeFault.{TakeFault}
 use Rattle.kv_site.specs.declared.fault.TakeFault.TheVariants.{Failed, NoMemory}
-use Rattle.kv_serve.specs.declared.ending.Ending.{Ending}
-use Rattle.kv_serve.specs.declared.open.OpenFault.{OpenFault}
-use Rattle.kv_serve.specs.declared.open.OpenFault.TheVariants.{NotAStore, DiskFault}
+use Rattle.kv_serve.specs.Answers.{HasAnswers, Recovers, any_unsure}
 use Rattle.kv_serve.specs.declared.ended.Refused.{Refused}
 use Rattle.kv_serve.specs.declared.ended.Refused.TheVariants.{Disk, TakeDisk, TakeSession}
 use Rattle.kv_serve.specs.declared.ended.Refused.TheVariants.{TakeReport}
 use Rattle.kv_serve.specs.declared.ended.Ended.{Ended}
-use Rattle.kv_serve.specs.Causes.{any_unsure}
-use Rattle.kv_serve.specs.Open.{IsBlank, IsUsed, IsSpared}
-use Rattle.kv_serve.specs.Run.{Streams, pairs_of, source_faults_for, sink_faults_for}
-use Rattle.kv_serve.specs.Store.{IsDurable, OthersStay}
-use Rattle.kv_serve.specs.Answers.{HasAnswers}
-use Rattle.kv_serve.specs.Transcript.{HasTranscript}
-
--- a session with its store, from its first byte to its end: what it took, handled, gave and left,
--- that the replies are those of one plain map, and the cause of each refusal and of its end; unsure
--- tells whether a write may be on disk or not
-pub record Serves {D So Si : Type 0} (d : Ghosts D) (streams : Streams So Si) (disk disk' : D)
-    (source source' : So) (sink sink' : Si) (ending : Ending) (unsure : Bool) : Type 0 where
-  pub bytes : List ℕ
-  pub ended : Bool
-  pub given : List ℕ
-  pub handled : List Request
-  pub replies : List Reply
-  pub passed : Passes (streams.stream source) (streams.stream source') bytes
-  pub took : Takes (streams.held sink) (streams.held sink') given
-  pub counted : ending.taken ≡ length bytes
-  pub spent : ended ≡ true → IsSpent (streams.stream source')
-  pub transcript : HasTranscript bytes ended given ending.undelivered.items ending.cause handled
-      replies
-  pub answers : HasAnswers d disk disk' (pairs_of handled replies)
-  pub unsure_is : unsure ≡ any_unsure (pairs_of handled replies)
-  pub source_rose : ending.cause ≡ SourceFault
-      → Rose (streams.source_faults source) (streams.source_faults source')
-  pub sink_rose : ending.cause ≡ SinkFault
-      → Rose (streams.sink_faults sink) (streams.sink_faults sink')
-  pub source_counted : streams.source_faults source' ≡ source_faults_for ending.cause
-      (streams.source_faults source)
-  pub sink_counted : streams.sink_faults sink' ≡ sink_faults_for ending.cause
-      (streams.sink_faults sink)
+use Rattle.kv_serve.specs.Opening.{default_limits, Opens, HadItems}
 
 -- the cause is End
 abbrev pub is_end : Cause → Bool
@@ -107,20 +80,6 @@ pub record BringsBoth {In Out Pages : Type 0} (before after : Held In Out Pages)
   pub sessions : ReturnsSession before after ends ends'
   pub report : after.report ≡ before.report
 
--- the disk was new, and has its head page, also after a crash
-pub record Opens {D : Type 0} (d : Ghosts D) (disk disk' : D) : Type 0 where
-  pub new : IsTrue d.tells → IsBlank (d.seen disk)
-      × (d.seen disk' ≡ with_page (d.seen disk) 0 0 (head_page 0 1))
-  pub durable : IsDurable d disk'
-
--- why the disk wasn't opened
-abbrev pub OpenFails : {D : Type 0} → Ghosts D → D → D → OpenFault → Type 0
-OpenFails d disk disk' NotAStore = (IsTrue d.tells → IsUsed (d.seen disk)
-    × (d.seen disk' ≡ d.seen disk))
-    × Same (d.leaves disk (d.calls disk)) (d.leaves disk' (d.calls disk'))
-OpenFails d disk disk' DiskFault = Rose (d.faults disk) (d.faults disk')
-    × (IsTrue d.tells → IsSpared (d.seen disk) (d.seen disk'))
-
 -- what a site tells, but for its disks: its streams, and what it holds and how often it failed
 -- before and after
 pub record Outside (In Out Pages : Type 0) : Type 0 where
@@ -131,38 +90,75 @@ pub record Outside (In Out Pages : Type 0) : Type 0 where
   pub faults : ℕ
   pub faults' : ℕ
 
+-- all that a site tells
+abbrev pub outside_of : {In Out Pages : Type 0} → sources.Ghosts In → sinks.Ghosts Out → Bool
+    → Held In Out Pages → Held In Out Pages → ℕ → ℕ → Outside In Out Pages
+outside_of source sink tells before after faults faults' = record {
+  streams = record {
+    stream = source.stream;
+    source_faults = source.faults;
+    held = sink.held;
+    sink_faults = sink.faults;
+  };
+  tells = tells;
+  before = before;
+  after = after;
+  faults = faults;
+  faults' = faults';
+}
+
+-- the disk in the folder that was taken, and what was given back
+pub record TookDisk {In Out Pages : Type 0} (o : Outside In Out Pages) (folder : List ℕ)
+    (Did : Pages → Pages → Type 0) : Type 0 where
+  pub disk : Pages
+  pub disk' : Pages
+  pub returns : IsTrue o.tells → ReturnsDisk o.before o.after folder disk disk'
+  pub did : Did disk disk'
+
+-- memory ran out before a disk was taken, or while it was opened, or behind that
+abbrev pub RunsOut : {In Out Pages : Type 0} → Ghosts Pages → Outside In Out Pages → List ℕ → Type 0
+RunsOut d o folder = (IsTrue o.tells → DisksKept o.before o.after)
+    ⊎ (TookDisk o folder (λ disk disk'. HasRefused d disk 0 1 disk' faults.NoMemory)
+    ⊎ TookDisk o folder (Opens d))
+
 -- why nothing was served: the status, and what shows the cause
 abbrev pub Refuses : {In Out Pages : Type 0} → Ghosts Pages → Outside In Out Pages → List ℕ → ℕ
     → Option Refused → Type 0
-Refuses {Pages = Pages} d o folder status None = (status ≡ 4) × (o.faults' ≡ o.faults)
-    × ((IsTrue o.tells → DisksKept o.before o.after) ⊎ ((disk : Pages) × (disk' : Pages)
-    × (IsTrue o.tells → ReturnsDisk o.before o.after folder disk disk') × Opens d disk disk'))
-Refuses {Pages = Pages} d o folder status (Some (Disk worker fault)) = (status ≡ 3) × (worker ≡ 0)
-    × (disk : Pages) × (disk' : Pages) × (IsTrue o.tells
-    → ReturnsDisk o.before o.after folder disk disk') × OpenFails d disk disk' fault
-Refuses {Pages = Pages} d o folder status (Some (TakeDisk worker)) = (status ≡ 3) × (worker ≡ 0)
-    × (IsTrue o.tells → DisksKept o.before o.after) × Rose o.faults o.faults'
-Refuses {Pages = Pages} d o folder status (Some (TakeSession session)) = (status ≡ 3)
-    × (session ≡ 0) × (disk : Pages) × (disk' : Pages) × (IsTrue o.tells
-    → ReturnsDisk o.before o.after folder disk disk') × Opens d disk disk' × Rose o.faults o.faults'
-Refuses {Pages = Pages} d o folder status (Some TakeReport) = ⊥
+Refuses d o folder status None = (status ≡ 4) × (o.faults' ≡ o.faults) × RunsOut d o folder
+Refuses d o folder status (Some (Disk worker fault)) = (status ≡ 3) × (worker ≡ 0)
+    × (fault ≢ faults.NoMemory) × (o.faults' ≡ o.faults)
+    × TookDisk o folder (λ disk disk'. HasRefused d disk 0 1 disk' fault)
+Refuses d o folder status (Some (TakeDisk worker)) = (status ≡ 3) × (worker ≡ 0)
+    × (IsTrue o.tells → DisksKept o.before o.after) × (o.faults' ≡ next_count o.faults)
+Refuses d o folder status (Some (TakeSession session)) = (status ≡ 3) × (session ≡ 0)
+    × TookDisk o folder (Opens d) × (o.faults' ≡ next_count o.faults)
+Refuses d o folder status (Some TakeReport) = ⊥
 
--- a session was served over a new disk: both were taken and given back, the disk is durable unless a
--- write is unsure, and the status is that of the session's end
+-- a session was served from what stood on the disk: both were taken and given back; the replies are
+-- those of one plain map; if nothing was pending on the disk, each moment leaves a prefix of its
+-- writes that holds all earlier ones; the exit leaves one that holds all acknowledged ones too; and
+-- the status is that of the session's end
 pub record IsServed {In Out Pages : Type 0} (d : Ghosts Pages) (o : Outside In Out Pages)
     (folder : List ℕ) (status : ℕ) (ending : Ending) : Type 0 where
   pub disk : Pages
   pub disk' : Pages
   pub ends : In × Out
   pub ends' : In × Out
-  pub unsure : Bool
-  pub new : IsTrue d.tells → IsBlank (d.seen disk)
+  pub before : List Write
+  pub floor : ℕ
+  pub groups : List (List Pair)
   pub disks : IsTrue o.tells → ReturnsDisk o.before o.after folder disk disk'
   pub sessions : IsTrue o.tells → ReturnsSession o.before o.after ends ends'
-  pub serves : Serves d o.streams disk disk' ends.0 ends'.0 ends.1 ends'.1 ending unsure
-  pub others : IsTrue d.tells → OthersStay (with_page (d.seen disk) 0 0 (head_page 0 1)) (d.seen disk')
-  pub durable : unsure ≡ false → IsDurable d disk'
-  pub status_is : status ≡ served_status ending.cause unsure
+  pub had : HadItems d disk before floor
+  pub session : HasSession o.streams ends.0 ends'.0 ends.1 ends'.1 ending groups
+  pub answers : HasAnswers d disk disk' default_limits.slots before floor groups
+  pub settled : Only (d.seen disk) (d.leaves disk (d.calls disk))
+      → Recovers d disk disk' before (pairs_in groups)
+  pub exit : (image : Image) → MayLeave (d.leaves disk' (d.calls disk')) image
+      → RecoversPrefix all_classes (before ++ writes (pairs_in groups)
+      ++ unsure_writes (pairs_in groups)) (before ++ writes (pairs_in groups)) image 0 1
+  pub status_is : status ≡ served_status ending.cause (any_unsure (pairs_in groups))
+  pub calm : o.faults' ≡ o.faults
 
 -- what the command did, by its endings: none where nothing was served, and then all sessions are
 -- held as before
@@ -184,3 +180,8 @@ pub record IsDone {In Out Pages : Type 0} (d : Ghosts Pages) (o : Outside In Out
 abbrev pub IsSessionRefusal : TakeFault → ℕ → Option Refused → Type 0
 IsSessionRefusal Failed status refused = (status ≡ 3) × (refused ≡ Some (TakeSession 0))
 IsSessionRefusal NoMemory status refused = (status ≡ 4) × (refused ≡ None)
+
+-- how a command ends whose disk was refused
+pub record IsDiskRefusal (fault : OpenFault) (status : ℕ) (refused : Option Refused) : Type 0 where
+  pub no_memory : fault ≡ faults.NoMemory → (status ≡ 4) × (refused ≡ None)
+  pub other : fault ≢ faults.NoMemory → (status ≡ 3) × (refused ≡ Some (Disk 0 fault))

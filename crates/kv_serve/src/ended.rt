@@ -1,5 +1,6 @@
-use crate::ending::Endings;
-use crate::open::OpenFault;
+use kv_base::ReservedList;
+use kv_recover::OpenFault;
+use kv_session::Ending;
 
 /// Why a command was refused.
 #[derive(Clone, Copy, Debug, PartialEq, Eq)]
@@ -8,7 +9,7 @@ pub enum Refused {
     Disk {
         /// The worker.
         worker: u32,
-        /// Why.
+        /// Why; never `NoMemory`.
         fault: OpenFault,
     },
     /// The site refused a worker's disk.
@@ -24,6 +25,9 @@ pub enum Refused {
     /// The site refused the sink of the report.
     TakeReport,
 }
+
+/// Endings in the order of their sessions.
+pub type Endings = ReservedList<Ending>;
 
 /// How a command ended.
 #[derive(Debug, Drop)]

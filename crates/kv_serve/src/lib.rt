@@ -1,34 +1,18 @@
 //! The program's commands, from words and bytes to bytes.
 #![tactic(auto)]
 
-mod answer;
 mod ended;
-mod ending;
-mod fill;
-mod found;
-mod get;
 mod give_back;
-mod item;
-mod made;
-mod open;
-mod pages;
-mod place;
-mod put;
-mod runs;
-mod send;
+mod opening;
+mod refuse;
+mod room;
 mod serve;
 mod serve_disk;
-mod session;
-mod sizes;
-mod store;
-#[cfg(test)]
-mod tests;
+mod status;
 mod top;
-mod window;
 mod words;
-mod worker;
 
-pub use ended::{Ended, Refused};
-pub use ending::{Ending, Endings};
-pub use open::OpenFault;
+pub use ended::{Ended, Endings, Refused};
+pub use kv_recover::OpenFault;
+pub use kv_session::Ending;
 pub use top::run_words;

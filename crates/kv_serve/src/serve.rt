@@ -1,17 +1,20 @@
-ghost use Rattle.std.specs.Prelude.{◌≡◌, ◌^◌, ◌≤◌, ◌<◌, [], ◌∷◌, None, Some, true, false, length, IsTrue};
-ghost use Rattle.kv_serve.specs.Session.{IsNew};
-ghost use Rattle.kv_serve.specs.Run.{Streams};
-ghost use Rattle.kv_serve.specs.Serve.{Serves, served_status};
-ghost use Rattle.kv_serve.specs.Store.{Holds, IsDurable, OthersStay};
+ghost use Rattle.std.specs.Prelude.{◌≡◌, ℕ, List};
+ghost use Rattle.kv_model.specs.History.{Write};
+ghost use Rattle.kv_model.specs.Pairs.{Pair, pairs_in};
+ghost use Rattle.kv_session.specs.Passage.{Streams, HasSession};
+ghost use Rattle.kv_session.specs.Session.{IsNew};
+ghost use Rattle.kv_serve.specs.Answers.{HasAnswers, Recovers, any_unsure};
+ghost use Rattle.kv_serve.specs.Begins.{Begins};
 
-use crate::ending::{Ending, Finished};
-use crate::runs::run;
-use crate::session::Session;
-use crate::store::Store;
-use kv_base::{Cause, Replies, Sink, Source};
+use crate::room::Room;
+use kv_base::{Sink, Source};
 use kv_disk::Disk;
+use kv_index::Index;
+use kv_session::{Ending, Session};
+use kv_worker::Worker;
+use std::alloc::Global;
 
-/// What was served: the ends, the disk, how the session ended, and whether a write is unsure.
+/// What was served: the disk, the ends, how the session ended, and whether a write is unsure.
 #[derive(Drop)]
 pub struct Served<D, So, Si> {
     pub disk: D,
@@ -21,52 +24,31 @@ pub struct Served<D, So, Si> {
     pub unsure: bool,
 }
 
-/// Serves a session from a new store.
-pub fn serve_one<D: Disk, So: Source, Si: Sink>(
-    mut store: Store<D>,
+/// Serves a session from a worker whose store was just opened.
+pub fn serve_one<D: Disk + Drop, I: Index + Drop, So: Source + Drop, Si: Sink + Drop>(
+    alloc: Global,
+    worker: Worker<D, I>,
     session: Session<So, Si>,
-    undelivered: Replies,
+    room: Room,
 ) -> Served<D, So, Si>
-    requires holds { Holds store [] }
-    requires next { store.next ≡ 1 }
-    requires open { store.closed ≡ false }
+    requires begins { (before : List Write) × (floor : ℕ)
+        × Begins ⟦<D as Disk>⟧ ⟦<I as Index>⟧ worker before floor }
     requires new { IsNew session }
-    requires empty { undelivered.items ≡ [] }
-    requires spare { 0 < undelivered.spare }
     ensures serves { let streams : Streams So Si = record {
       stream = So.stream;
       source_faults = So.faults;
       held = Si.held;
       sink_faults = Si.faults;
     } in
-        Serves ⟦<D as Disk>⟧ streams store.disk result.disk session.source result.source
-        session.sink result.sink result.ending result.unsure }
-    ensures others { IsTrue D.tells → OthersStay (D.seen store.disk) (D.seen result.disk) }
-    ensures durable { IsDurable ⟦<D as Disk>⟧ store.disk → result.unsure ≡ false
-        → IsDurable ⟦<D as Disk>⟧ result.disk }
+        (before : List Write) (floor : ℕ)
+        → Begins ⟦<D as Disk>⟧ ⟦<I as Index>⟧ worker before floor → (groups : List (List Pair))
+        × HasSession streams session.source result.source session.sink result.sink result.ending
+        groups
+        × HasAnswers ⟦<D as Disk>⟧ worker.store.disk.disk result.disk worker.store.limits.slots before
+        floor groups
+        × Recovers ⟦<D as Disk>⟧ worker.store.disk.disk result.disk before (pairs_in groups)
+        × (result.unsure ≡ any_unsure (pairs_in groups)) }
 {
-    let finished = run(&mut store, session, undelivered);
-    let Finished {
-        source,
-        sink,
-        ending,
-    } = finished;
-    let Store { disk, closed, .. } = store;
-    Served {
-        disk,
-        source,
-        sink,
-        ending,
-        unsure: closed,
-    }
-}
-
-/// The status where a session was served.
-pub fn status_of(cause: Cause, unsure: bool) -> u8
-    ensures { result ≡ served_status cause unsure }
-{
-    match cause {
-        Cause::End if !unsure => 0,
-        _ => 1,
-    }
+    let _ = (alloc, worker, session);
+    match room.never {}
 }

@@ -1,187 +1,138 @@
-ghost use Rattle.std.specs.Prelude.{◌≡◌, ◌≤◌, ◌<◌, ℕ, List, [], IsTrue, false};
+ghost use Rattle.std.specs.Prelude.{◌≡◌, ◌<◌, ℕ, List, [], IsTrue};
+ghost use Rattle.kv_session.specs.Session.{IsNew};
 ghost use Rattle.kv_site.specs.Held.{Held, TakesDisk, TakesSession};
-ghost use Rattle.kv_serve.specs.Serve.{Outside, IsDone, Opens, IsSessionRefusal};
-ghost use Rattle.kv_serve.specs.Store.{Holds};
+ghost use Rattle.kv_serve.specs.Opening.{Starts};
+ghost use Rattle.kv_serve.specs.Serve.{IsDone, outside_of};
 
-use crate::ended::{Ended, Refused};
-use crate::ending::Endings;
+use crate::ended::{Ended, Endings};
 use crate::give_back::{give_both_back, give_disk_back};
-use crate::made::new_store;
-use crate::open::make_store;
-use crate::serve::{serve_one, status_of};
-use crate::session::Session;
-use crate::store::Store;
-use kv_base::{Replies, Sink, Source};
+use crate::opening::open_worker;
+use crate::refuse::{refuse_disk, refuse_session, run_out};
+use crate::room::Room;
+use crate::serve::serve_one;
+use crate::status::status_of;
+use kv_base::{Sink, Source};
 use kv_disk::Disk;
-use kv_site::{Site, TakeFault};
+use kv_index::Index;
+use kv_session::Session;
+use kv_site::Site;
+use kv_tree::TreeIndex;
+use kv_worker::Worker;
 use std::alloc::Global;
 
 /// Serves a session over a disk that was taken from the site.
 pub fn serve_disk<S: Site>(
     alloc: Global,
     site: &mut S,
-    mut disk: S::Pages,
+    disk: S::Pages,
     endings: Endings,
-    undelivered: Replies,
+    room: Room,
 ) -> Ended
     requires endings { endings.items ≡ [] }
-    requires room { 0 < endings.spare }
-    requires empty { undelivered.items ≡ [] }
-    requires spare { 0 < undelivered.spare }
+    requires spare { 0 < endings.spare }
     ensures { (before : Held S.In S.Out S.Pages) (folder : List ℕ) (n : ℕ)
         → (IsTrue S.tells → TakesDisk before (S.holds site.old) folder 0 disk)
-        → n ≡ S.faults site.old →
-        let o : Outside S.In S.Out S.Pages = record {
-          streams = record {
-            stream = ⟦<S::In as Source>⟧.stream;
-            source_faults = ⟦<S::In as Source>⟧.faults;
-            held = ⟦<S::Out as Sink>⟧.held;
-            sink_faults = ⟦<S::Out as Sink>⟧.faults;
-          };
-          tells = S.tells;
-          before = before;
-          after = S.holds site.new;
-          faults = n;
-          faults' = S.faults site.new;
-        } in
-        IsDone ⟦<S::Pages as Disk>⟧ o folder result }
+        → n ≡ S.faults site.old
+        → IsDone ⟦<S::Pages as Disk>⟧ (outside_of ⟦<S::In as Source>⟧ ⟦<S::Out as Sink>⟧ S.tells
+        before (S.holds site.new) n (S.faults site.new)) folder result }
 {
-    match make_store(&mut disk) {
-        Ok(()) => serve_store(alloc, site, new_store(alloc, disk), endings, undelivered),
-        Err(fault) => {
+    match open_worker(alloc, disk) {
+        Ok(worker) => serve_worker(alloc, site, worker, endings, room),
+        Err((disk, fault)) => {
             give_disk_back(site, disk);
-            Ended {
-                status: 3,
-                endings,
-                refused: Some(Refused::Disk { worker: 0, fault }),
-            }
+            refuse_disk(fault, endings)
         }
     }
 }
 
-/// Serves a session over a new store, whose disk was taken from the site.
-fn serve_store<S: Site>(
+/// Serves a session over a new worker, whose disk was taken from the site.
+fn serve_worker<S: Site>(
     alloc: Global,
     site: &mut S,
-    store: Store<S::Pages>,
+    worker: Worker<S::Pages, TreeIndex>,
     endings: Endings,
-    undelivered: Replies,
+    room: Room,
 ) -> Ended
-    requires holds { Holds store [] }
-    requires next { store.next ≡ 1 }
-    requires open { store.closed ≡ false }
     requires endings { endings.items ≡ [] }
-    requires room { 0 < endings.spare }
-    requires empty { undelivered.items ≡ [] }
-    requires spare { 0 < undelivered.spare }
-    ensures { (before : Held S.In S.Out S.Pages) (folder : List ℕ) (n : ℕ) (taken : S.Pages)
-        → (IsTrue S.tells → TakesDisk before (S.holds site.old) folder 0 taken)
-        → Opens ⟦<S::Pages as Disk>⟧ taken store.disk
-        → ⟦<S::Pages as Disk>⟧.faults store.disk ≡ ⟦<S::Pages as Disk>⟧.faults taken
-        → n ≡ S.faults site.old →
-        let o : Outside S.In S.Out S.Pages = record {
-          streams = record {
-            stream = ⟦<S::In as Source>⟧.stream;
-            source_faults = ⟦<S::In as Source>⟧.faults;
-            held = ⟦<S::Out as Sink>⟧.held;
-            sink_faults = ⟦<S::Out as Sink>⟧.faults;
-          };
-          tells = S.tells;
-          before = before;
-          after = S.holds site.new;
-          faults = n;
-          faults' = S.faults site.new;
-        } in
-        IsDone ⟦<S::Pages as Disk>⟧ o folder result }
+    requires spare { 0 < endings.spare }
+    requires started { (disk : S.Pages)
+        × Starts ⟦<S::Pages as Disk>⟧ ⟦<TreeIndex as Index>⟧ disk worker }
+    ensures { (before : Held S.In S.Out S.Pages) (folder : List ℕ) (n : ℕ) (disk : S.Pages)
+        → (IsTrue S.tells → TakesDisk before (S.holds site.old) folder 0 disk)
+        → Starts ⟦<S::Pages as Disk>⟧ ⟦<TreeIndex as Index>⟧ disk worker
+        → n ≡ S.faults site.old
+        → IsDone ⟦<S::Pages as Disk>⟧ (outside_of ⟦<S::In as Source>⟧ ⟦<S::Out as Sink>⟧ S.tells
+        before (S.holds site.new) n (S.faults site.new)) folder result }
 {
     match site.take_session(0, "-", "-") {
-        Ok((source, sink)) => {
-            serve_session(alloc, site, store, source, sink, endings, undelivered)
-        }
+        Ok((source, sink)) => serve_ends(alloc, site, worker, source, sink, endings, room),
         Err(fault) => {
-            give_disk_back(site, store.disk);
+            give_disk_back(site, worker.into_disk());
             refuse_session(fault, endings)
         }
     }
 }
 
-/// The end of a command that got no ends for its session.
-fn refuse_session(fault: TakeFault, endings: Endings) -> Ended
-    requires { endings.items ≡ [] }
-    ensures endings { result.endings.items ≡ [] }
-    ensures cause { IsSessionRefusal fault result.status result.refused }
+/// Serves a session over a new worker, both of whose ends and whose disk were taken from the site.
+fn serve_ends<S: Site>(
+    alloc: Global,
+    site: &mut S,
+    worker: Worker<S::Pages, TreeIndex>,
+    source: S::In,
+    sink: S::Out,
+    endings: Endings,
+    room: Room,
+) -> Ended
+    requires endings { endings.items ≡ [] }
+    requires spare { 0 < endings.spare }
+    requires started { (disk : S.Pages)
+        × Starts ⟦<S::Pages as Disk>⟧ ⟦<TreeIndex as Index>⟧ disk worker }
+    ensures { (before between : Held S.In S.Out S.Pages) (folder : List ℕ) (n : ℕ) (disk : S.Pages)
+        → (IsTrue S.tells → TakesDisk before between folder 0 disk)
+        → (IsTrue S.tells → TakesSession between (S.holds site.old) 0 (source, sink))
+        → Starts ⟦<S::Pages as Disk>⟧ ⟦<TreeIndex as Index>⟧ disk worker
+        → n ≡ S.faults site.old
+        → IsDone ⟦<S::Pages as Disk>⟧ (outside_of ⟦<S::In as Source>⟧ ⟦<S::Out as Sink>⟧ S.tells
+        before (S.holds site.new) n (S.faults site.new)) folder result }
 {
-    match fault {
-        TakeFault::Failed => Ended {
-            status: 3,
-            endings,
-            refused: Some(Refused::TakeSession { session: 0 }),
-        },
-        TakeFault::NoMemory => Ended {
-            status: 4,
-            endings,
-            refused: None,
-        },
+    match Session::new(alloc, source, sink) {
+        Ok(session) => serve_session(alloc, site, worker, session, endings, room),
+        Err((source, sink, _)) => {
+            give_both_back(site, source, sink, worker.into_disk());
+            run_out(endings)
+        }
     }
 }
 
-/// Serves a session over a new store, both of whose ends and whose disk were taken from the site.
+/// Serves a new session over a new worker, whose ends and whose disk were taken from the site.
 fn serve_session<S: Site>(
     alloc: Global,
     site: &mut S,
-    store: Store<S::Pages>,
-    source: S::In,
-    sink: S::Out,
+    worker: Worker<S::Pages, TreeIndex>,
+    session: Session<S::In, S::Out>,
     mut endings: Endings,
-    undelivered: Replies,
+    room: Room,
 ) -> Ended
-    requires holds { Holds store [] }
-    requires next { store.next ≡ 1 }
-    requires open { store.closed ≡ false }
     requires endings { endings.items ≡ [] }
-    requires room { 0 < endings.spare }
-    requires empty { undelivered.items ≡ [] }
-    requires spare { 0 < undelivered.spare }
-    ensures { (before between : Held S.In S.Out S.Pages) (folder : List ℕ) (n : ℕ) (taken : S.Pages)
-        → (IsTrue S.tells → TakesDisk before between folder 0 taken)
-        → (IsTrue S.tells → TakesSession between (S.holds site.old) 0 (source, sink))
-        → Opens ⟦<S::Pages as Disk>⟧ taken store.disk
-        → ⟦<S::Pages as Disk>⟧.faults store.disk ≡ ⟦<S::Pages as Disk>⟧.faults taken
-        → n ≡ S.faults site.old →
-        let o : Outside S.In S.Out S.Pages = record {
-          streams = record {
-            stream = ⟦<S::In as Source>⟧.stream;
-            source_faults = ⟦<S::In as Source>⟧.faults;
-            held = ⟦<S::Out as Sink>⟧.held;
-            sink_faults = ⟦<S::Out as Sink>⟧.faults;
-          };
-          tells = S.tells;
-          before = before;
-          after = S.holds site.new;
-          faults = n;
-          faults' = S.faults site.new;
-        } in
-        IsDone ⟦<S::Pages as Disk>⟧ o folder result }
+    requires spare { 0 < endings.spare }
+    requires new { IsNew session }
+    requires started { (disk : S.Pages)
+        × Starts ⟦<S::Pages as Disk>⟧ ⟦<TreeIndex as Index>⟧ disk worker }
+    ensures { (before between : Held S.In S.Out S.Pages) (folder : List ℕ) (n : ℕ) (disk : S.Pages)
+        → (IsTrue S.tells → TakesDisk before between folder 0 disk)
+        → (IsTrue S.tells → TakesSession between (S.holds site.old) 0 (session.source, session.sink))
+        → Starts ⟦<S::Pages as Disk>⟧ ⟦<TreeIndex as Index>⟧ disk worker
+        → n ≡ S.faults site.old
+        → IsDone ⟦<S::Pages as Disk>⟧ (outside_of ⟦<S::In as Source>⟧ ⟦<S::Out as Sink>⟧ S.tells
+        before (S.holds site.new) n (S.faults site.new)) folder result }
 {
-    match Session::new(alloc, source, sink) {
-        Ok(session) => {
-            let served = serve_one(store, session, undelivered);
-            let status = status_of(served.ending.cause, served.unsure);
-            give_both_back(site, served.source, served.sink, served.disk);
-            endings.append(served.ending).unwrap();
-            Ended {
-                status,
-                endings,
-                refused: None,
-            }
-        }
-        Err((source, sink, _)) => {
-            give_both_back(site, source, sink, store.disk);
-            Ended {
-                status: 4,
-                endings,
-                refused: None,
-            }
-        }
+    let served = serve_one(alloc, worker, session, room);
+    let status = status_of(served.ending.cause, served.unsure);
+    give_both_back(site, served.source, served.sink, served.disk);
+    endings.append(served.ending).unwrap();
+    Ended {
+        status,
+        endings,
+        refused: None,
     }
 }

@@ -1,37 +1,29 @@
 ghost use Rattle.std.specs.Prelude.{◌≡◌, ℕ, List, [], map, string_bytes, None};
-ghost use Rattle.kv_serve.specs.Serve.{Outside, IsDone};
+ghost use Rattle.kv_serve.specs.Serve.{IsDone, outside_of};
 ghost use Rattle.kv_serve.specs.Words.{IsServe};
 
-use crate::ended::{Ended, Refused};
-use crate::ending::Endings;
+use crate::ended::{Ended, Endings, Refused};
+use crate::room::Room;
 use crate::serve_disk::serve_disk;
 use crate::words::served_folder;
-use kv_base::{NoMemory, Replies, Sink, Source};
+use kv_base::{NoMemory, Sink, Source};
 use kv_disk::Disk;
 use kv_site::{Site, TakeFault};
 use std::alloc::Global;
 
-/// Carries out a command, whose words don't include the program's name: `serve DIR 1 - -`. All that
-/// it takes from the site it gives back.
+/// Carries out a command, whose words don't include the program's name: `serve DIR 1 - -`. It opens
+/// the store of worker 0 of 1 in the folder, with at most 2^20 slots of each class and a cache of 256
+/// pages, and serves one session. All that it takes from the site it gives back.
+///
+/// Statuses and refusals are those of docs/protocol.md, "Endings and statuses".
 pub fn run_words<S: Site>(alloc: Global, words: &[String], site: &mut S) -> Ended
     ensures usage { ((folder : List ℕ) → IsServe (map (λ word. string_bytes word) words.now) folder → ⊥)
         → (result.status ≡ 2) × (result.endings.items ≡ []) × (result.refused ≡ None)
         × (site.new ≡ site.old) }
-    ensures done { let o : Outside S.In S.Out S.Pages = record {
-      streams = record {
-        stream = ⟦<S::In as Source>⟧.stream;
-        source_faults = ⟦<S::In as Source>⟧.faults;
-        held = ⟦<S::Out as Sink>⟧.held;
-        sink_faults = ⟦<S::Out as Sink>⟧.faults;
-      };
-      tells = S.tells;
-      before = S.holds site.old;
-      after = S.holds site.new;
-      faults = S.faults site.old;
-      faults' = S.faults site.new;
-    } in
-        (folder : List ℕ) → IsServe (map (λ word. string_bytes word) words.now) folder
-        → IsDone ⟦<S::Pages as Disk>⟧ o folder result }
+    ensures done { (folder : List ℕ) → IsServe (map (λ word. string_bytes word) words.now) folder
+        → IsDone ⟦<S::Pages as Disk>⟧ (outside_of ⟦<S::In as Source>⟧ ⟦<S::Out as Sink>⟧ S.tells
+        (S.holds site.old) (S.holds site.new) (S.faults site.old) (S.faults site.new)) folder
+        result }
 {
     match served_folder(words) {
         Some(folder) => serve(alloc, folder, site),
@@ -41,29 +33,18 @@ pub fn run_words<S: Site>(alloc: Global, words: &[String], site: &mut S) -> Ende
 
 /// Serves a session over the disk of worker 0 in the folder.
 fn serve<S: Site>(alloc: Global, folder: &str, site: &mut S) -> Ended
-    ensures { let o : Outside S.In S.Out S.Pages = record {
-      streams = record {
-        stream = ⟦<S::In as Source>⟧.stream;
-        source_faults = ⟦<S::In as Source>⟧.faults;
-        held = ⟦<S::Out as Sink>⟧.held;
-        sink_faults = ⟦<S::Out as Sink>⟧.faults;
-      };
-      tells = S.tells;
-      before = S.holds site.old;
-      after = S.holds site.new;
-      faults = S.faults site.old;
-      faults' = S.faults site.new;
-    } in
-        IsDone ⟦<S::Pages as Disk>⟧ o folder.now result }
+    ensures { IsDone ⟦<S::Pages as Disk>⟧ (outside_of ⟦<S::In as Source>⟧ ⟦<S::Out as Sink>⟧ S.tells
+        (S.holds site.old) (S.holds site.new) (S.faults site.old) (S.faults site.new)) folder.now
+        result }
 {
     let Ok(endings) = Endings::with_room(alloc, 1) else {
         return not_served(alloc, 4, None);
     };
-    let Ok(undelivered) = Replies::with_room(alloc, 1) else {
+    let Ok(room) = Room::new(alloc) else {
         return not_served(alloc, 4, None);
     };
     match site.take_disk(folder, 0) {
-        Ok(disk) => serve_disk(alloc, site, disk, endings, undelivered),
+        Ok(disk) => serve_disk(alloc, site, disk, endings, room),
         Err(TakeFault::Failed) => not_served(alloc, 3, Some(Refused::TakeDisk { worker: 0 })),
         Err(TakeFault::NoMemory) => not_served(alloc, 4, None),
     }

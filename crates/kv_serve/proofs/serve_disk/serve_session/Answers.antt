@@ -1,50 +1,51 @@
 -- What was taken came back, and what was served was served over the disk as it was taken.
-use Rattle.std.proofs.Common.{◌≡◌, [], ◌∷◌, ◌++◌, IsTrue, refl, sym, ap, ◌∙◌, inr}
-use Rattle.kv_serve.proofs.ServeLemmas.{serves_from, sessions_kept, pair_is}
+use Rattle.std.proofs.Common.{◌≡◌, [], ◌∷◌, ◌++◌, IsTrue, refl, sym, ap, ◌∙◌, subst}
+use Rattle.kv_model.specs.Pairs.{pairs_in}
+use Rattle.kv_serve.specs.Answers.{HasAnswers}
+use Rattle.kv_serve.specs.Serve.{served_status}
+use Rattle.kv_serve.proofs.OpeningLemmas.{recovers-all}
+use Rattle.kv_serve.proofs.ServeLemmas.{answers-from}
 use Rattle.kv_serve.proofs.serve_disk.serve_session.Goals as goal
 
-pub returns-in-Ok : goal.returns-in-Ok
-returns-in-Ok g c before between folder n taken disk_taken session_taken opens faults risen =
+pub serve_one-served-requires-clause-begins : goal.serve_one-served-requires-clause-begins
+serve_one-served-requires-clause-begins g c =
+    let starts = c.requires.started.1 in (starts.before, starts.floor, starts.begins)
+
+pub returns : goal.returns
+returns g c before between folder n disk taken session_taken starts risen =
+    let served = c.serve_one-served.result in
+    let did = c.serve_one-served.ensures.serves starts.before starts.floor starts.begins in
     let back = λ (t : IsTrue g.S.Site.tells). c.give_both_back.ensures.back before between folder
-    taken (c.args.source, c.args.sink) t (disk_taken t) (session_taken t) in
-    let one : c.append.new.self.items ≡ c.serve_one-served.result.ending ∷ [] =
+    disk (c.args.session.source, c.args.session.sink) t (taken t) (session_taken t) in
+    let one : c.append.new.self.items ≡ served.ending ∷ [] =
     (rw c.unwrap.ensures at c.append.ensures.ok)
-    ∙ ap (λ l. l ++ c.serve_one-served.result.ending ∷ []) c.requires.endings in
+    ∙ ap (λ l. l ++ served.ending ∷ []) c.requires.endings in
     record {
       ends = rw one (
         refl,
         record {
-          disk = taken;
-          disk' = c.serve_one-served.result.disk;
-          ends = (c.args.source, c.args.sink);
-          ends' = (c.serve_one-served.result.source, c.serve_one-served.result.sink);
-          unsure = c.serve_one-served.result.unsure;
-          new = λ t. (opens.new t).0;
+          disk = disk;
+          disk' = served.disk;
+          ends = (c.args.session.source, c.args.session.sink);
+          ends' = (served.source, served.sink);
+          before = starts.before;
+          floor = starts.floor;
+          groups = did.0;
           disks = λ t. (back t).disks;
           sessions = λ t. (back t).sessions;
-          serves = serves_from g.S.Pages.Disk _ taken c.args.store.disk _ c.args.source
-              c.in-Ok.session.source _ c.args.sink c.in-Ok.session.sink _ _ _ c.in-Ok.ensures.ok.1
-              c.in-Ok.ensures.ok.2 faults c.serve_one-served.ensures.serves;
-          others = λ t. rw (← (opens.new t).1) (c.serve_one-served.ensures.others t);
-          durable = λ sure. c.serve_one-served.ensures.durable opens.durable sure;
-          status_is = c.status_of-status.ensures;
+          had = starts.had;
+          session = did.1;
+          answers = answers-from g.S.Pages.Disk disk c.args.worker.store.disk.disk served.disk _
+              starts.before starts.floor did.0 starts.opens.calm
+              (subst (λ limits. HasAnswers g.S.Pages.Disk c.args.worker.store.disk.disk
+              served.disk limits.slots starts.before starts.floor did.0) starts.limits_are did.2);
+          settled = λ only. recovers-all g.S.Pages.Disk disk c.args.worker.store.disk.disk
+              starts.before starts.floor starts.had served.disk (pairs_in did.0) did.2.agrees
+              (starts.settled only) did.3;
+          exit = did.3.exit;
+          status_is = c.status_of-status.ensures ∙ ap (served_status served.ending.cause) did.4;
+          calm = c.give_both_back.ensures.still ∙ sym risen;
         },
-      );
-      report = λ t. (back t).report;
-    }
-
-pub returns-in-Err : goal.returns-in-Err
-returns-in-Err g c before between folder n taken disk_taken session_taken opens faults risen =
-    let back = λ (t : IsTrue g.S.Site.tells). c.give_both_back-in-Err.ensures.back before between
-    folder taken (c.args.source, c.args.sink) t (disk_taken t) (session_taken t) in
-    let same : (c.in-Err.source, c.in-Err.sink) ≡ (c.args.source, c.args.sink) =
-    pair_is (c.in-Err.source, c.in-Err.sink) (c.args.source, c.args.sink)
-    c.in-Err.ensures.err.0 c.in-Err.ensures.err.1 in
-    record {
-      ends = rw c.requires.endings (
-        λ t. sessions_kept before _ (c.args.source, c.args.sink)
-            (c.in-Err.source, c.in-Err.sink) same (back t).sessions,
-        (refl, c.give_both_back-in-Err.ensures.still ∙ sym risen, inr (taken, c.args.store.disk, λ t. (back t).disks, opens)),
       );
       report = λ t. (back t).report;
     }

@@ -52,6 +52,15 @@ pub SameValue-refl : (told : Bool) (value : Option (List ℕ)) → SameValue tol
 SameValue-refl told None = tt
 SameValue-refl told (Some value) = λ _. refl
 
+-- what is the same as one value, which is the same as another, is the same as that
+pub SameValue-trans : (told : Bool) (a b c : Option (List ℕ)) → SameValue told a b
+    → SameValue told b c → SameValue told a c
+SameValue-trans told None None c first second = second
+SameValue-trans told None (Some b) c first second = absurd first
+SameValue-trans told (Some a) None c first second = absurd first
+SameValue-trans told (Some a) (Some b) None first second = second
+SameValue-trans told (Some a) (Some b) (Some c) first second = λ yes. first yes ∙ second yes
+
 none-of : (told : Bool) (kept : Option (List ℕ)) → SameValue told None kept → kept ≡ None
 none-of told None same = refl
 none-of told (Some kept) same = absurd same

@@ -16,7 +16,7 @@ use Rattle.kv_model.specs.Layout.{Layout}
 use Rattle.kv_model.specs.Pairs.{Pair, acknowledged, acknowledged_by, stamp_of, stamps, writes}
 use Rattle.kv_model.specs.Agreement.{AgreesWithMap, IsAnswer, IsMapAnswer, IsRead, refusal_of}
 use Rattle.kv_model.specs.Batch.{IsTask, Start, behind, answers, reply_of}
-use Rattle.kv_model.specs.Items.{BeginsAt}
+use Rattle.kv_model.specs.Items.{FollowsHistory}
 use Rattle.kv_model.specs.BatchLaws.{pairs_of}
 use Rattle.kv_model.proofs.ReadingLemmas.{AllBelow, AllFrom, RiseBetween-from, AllBelow-append}
 use Rattle.kv_model.proofs.ReadingLemmas.{AllBelow-weaken}
@@ -167,9 +167,9 @@ stamps-differ (request ∷ requests) start before stamp =
 pub agrees-with-more : (told : Bool) (layout : Layout) (before : List Write) (floor : ℕ)
     (pairs : List Pair) (base : ℕ) (start : Start) (requests : List Request)
     → AgreesWithMap told layout before floor pairs → start.layout ≡ layout
-    → BeginsAt told (before ++ writes pairs) base start → floor < base → AllBelow base before
-    → AllByRecursion (IsBelowStamp base) pairs → base + length requests ≤ 2 ^ 62
-    → AllByRecursion (IsTask layout) requests
+    → FollowsHistory told (before ++ writes pairs) (base - 1) start → floor < base
+    → AllBelow base before → AllByRecursion (IsBelowStamp base) pairs
+    → base + length requests ≤ 2 ^ 62 → AllByRecursion (IsTask layout) requests
     → AgreesWithMap told layout before floor (pairs ++ pairs_of requests (answers start [] base
     requests))
 agrees-with-more told layout before floor pairs base start requests agrees same begins above below

@@ -1,6 +1,6 @@
 -- What the answers to a batch and its net changes have, whatever the batch is.
-use Rattle.std.specs.Prelude.{◌≡◌, ◌≢◌, ℕ, ◌+◌, ◌-◌, ◌≤◌, ◌<◌, ◌^◌, List, [], ◌∷◌, ◌++◌, length, Bool}
-use Rattle.std.specs.Prelude.{MatchOption, ⊤, Option, ◌⊎◌, map}
+use Rattle.std.specs.Prelude.{◌≡◌, ◌≢◌, ℕ, ◌+◌, ◌-◌, ◌≤◌, ◌<◌, ◌^◌, List, [], ◌∷◌, ◌++◌, length}
+use Rattle.std.specs.Prelude.{Bool, MatchOption, ⊤, Option, ◌⊎◌, map}
 use Rattle.std.specs.List.{AllByRecursion}
 use Rattle.kv_base.specs.declared.request.Request.{Request}
 use Rattle.kv_base.specs.declared.reply.Reply.{Reply}
@@ -47,7 +47,8 @@ NetHasOneWritePerKey = (start : Start) (base : ℕ) (requests : List Request)
 -- behind the net changes a key has what it has behind all accepted writes
 abbrev pub NetReadsAsAll : Type 0
 NetReadsAsAll = (told : Bool) (history : List Write) (base : ℕ) (start : Start)
-    (requests : List Request) (stamp : ℕ) (key : List ℕ) → FollowsHistory told history (base - 1) start
+    (requests : List Request) (stamp : ℕ) (key : List ℕ)
+    → FollowsHistory told history (base - 1) start
     → AllByRecursion (λ write. write.stamp < base) history → base + length requests ≤ stamp + 1
     → value_at (history ++ net start (accepted_writes start [] base requests)) stamp key
     ≡ value_at (history ++ accepted_writes start [] base requests) stamp key
@@ -55,7 +56,8 @@ NetReadsAsAll = (told : Bool) (history : List Write) (base : ℕ) (start : Start
 -- behind the acknowledged writes a key has what it has behind all accepted ones
 abbrev pub AcknowledgedReadAsAll : Type 0
 AcknowledgedReadAsAll = (told : Bool) (history : List Write) (base : ℕ) (start : Start)
-    (requests : List Request) (stamp : ℕ) (key : List ℕ) → FollowsHistory told history (base - 1) start
+    (requests : List Request) (stamp : ℕ) (key : List ℕ)
+    → FollowsHistory told history (base - 1) start
     → AllByRecursion (λ write. write.stamp < base) history → base + length requests ≤ stamp + 1
     → value_at (history ++ writes (pairs_of requests (answers start [] base requests))) stamp key
     ≡ value_at (history ++ accepted_writes start [] base requests) stamp key

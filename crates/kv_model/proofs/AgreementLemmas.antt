@@ -146,7 +146,7 @@ SameValue-behind told start before stamp request history key below equal =
         ((bytes_eq-Decides w.write.key key).0 same) w.absent) equal))
 
 -- the class that is full is the item's
-full-is : (class : Option ℕ) (test : ℕ → Bool) (full : ℕ)
+pub full-is : (class : Option ℕ) (test : ℕ → Bool) (full : ℕ)
     → option_and_then (λ c. cond (test c) (Some c) None) class ≡ Some full → class ≡ Some full
 full-is None test full e = e
 full-is (Some class) test full e = by (test class) e

@@ -23,3 +23,5 @@ pub mod LengthLemmas
 pub mod HandOver
 pub mod KeptLemmas
 pub mod OrderLemmas
+pub mod FaultLemmas
+pub mod FitLemmas

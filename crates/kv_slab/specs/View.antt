@@ -1,5 +1,6 @@
 -- A store as its callers see it.
-use Rattle.std.specs.Prelude.{◌≡◌, ◌⊎◌, ℕ, ◌≤◌, Bool, List, Option, None, Some, IsTrue}
+use Rattle.std.specs.Prelude.{◌≡◌, ◌⊎◌, ℕ, ◌≤◌, Bool, List, Option, None, Some, IsTrue, IsSome}
+use Rattle.std.specs.Prelude.{length}
 use Rattle.std.specs.FinMap as finite
 use Rattle.kv_base.specs.Image.{Image, zero_page}
 use Rattle.kv_base.specs.Partition.{owner_of}
@@ -11,7 +12,7 @@ use Rattle.kv_index.specs.declared.index.Index as indexes
 use Rattle.kv_index.specs.declared.entry.Entry.{Entry}
 use Rattle.kv_index.specs.Entries.{Entries, HasNoneFrom, IsNext}
 use Rattle.kv_model.specs.Head.{head_page}
-use Rattle.kv_model.specs.Layout.{all_classes}
+use Rattle.kv_model.specs.Layout.{all_classes, class_of}
 use Rattle.kv_model.specs.Reading.{Copy, Gives, IsFound, slot_at}
 use Rattle.kv_model.specs.Recovery.{most_pages}
 use Rattle.kv_model.specs.Slots.{Never, Item}
@@ -124,6 +125,10 @@ IsEntryItem None key None = Unit {0}
 IsEntryItem None key (Some e) = ⊥
 IsEntryItem (Some item) key None = ⊥
 IsEntryItem (Some item) key (Some e) = (item.key ≡ key) × (item.stamp ≡ e.stamp)
+
+-- key and value of the item have a class
+abbrev pub HasClass : ItemOf → Type 0
+HasClass item = IsSome (class_of all_classes (length item.key) (length item.value))
 
 -- on every disk: the item has the least key at or after the given one, and its entry's stamp
 abbrev pub IsNextEntry : Entries → List ℕ → Option ItemOf → Type 0

@@ -1,5 +1,5 @@
 ghost use Rattle.std.specs.Prelude.{◌≡◌, ℕ, ◌+◌, ◌*◌, ◌<◌, ◌≤◌, List, Option, None, Some, IsTrue};
-ghost use Rattle.std.specs.Prelude.{IfOk, IfErr};
+ghost use Rattle.std.specs.Prelude.{IfOk};
 ghost use Rattle.std.specs.Prelude.{length, IfSome, OnOk};
 ghost use Rattle.std.specs.FinMap as finite;
 ghost use Rattle.kv_model.specs.Layout.{all_classes, class_of};
@@ -10,7 +10,7 @@ ghost use Rattle.kv_slab.specs.Moves.{IsMove, IsPair, IsSlabPlace, AreDistinct, 
 ghost use Rattle.kv_slab.specs.Moves.{FitsClass};
 ghost use Rattle.kv_slab.specs.Moves.{AllFit, AreAllMoves};
 ghost use Rattle.kv_disk.specs.Steps.{ReadsAtMost};
-ghost use Rattle.kv_slab.specs.Fault.{HasStepCause};
+ghost use Rattle.kv_slab.specs.Fault.{StepCounted};
 ghost use Rattle.kv_slab.specs.Rooms.{Rooms, AreRooms, AreLinked, ArePlaced, left_by, left_for};
 ghost use Rattle.kv_slab.specs.Rooms.{item_class, slot_class, new_class, needed};
 ghost use Rattle.kv_slab.specs.Assigned.{GoesTo, Assigned, AreEnds, TargetFor};
@@ -85,7 +85,7 @@ fn target_for<D: Disk>(
     ensures goes { IsTrue D.tells → IfOk result (λ target. (old : Rooms)
         → AreRooms rooms.old.items old → AreLinked (slot_at all_classes (D.seen disk.old.disk)) old
         → (new : Rooms) × AreRooms rooms.new.items new × TargetFor from class target old new) }
-    ensures cause { IfErr result (HasStepCause (D.faults disk.old.disk) (D.faults disk.new.disk)) }
+    ensures cause { StepCounted (D.faults disk.old.disk) (D.faults disk.new.disk) result }
 {
     match class {
         Some(class) => match place_for(disk, from, class, rooms) {
@@ -118,7 +118,7 @@ fn assign_one<D: Disk, I: Index>(
         → (new : Rooms) × AreRooms rooms.new.items new
         × GoesTo (finite.get (I.entries index.now)) change.now m old new) }
     ensures ends { AreEnds rooms.new.items }
-    ensures cause { IfErr result (HasStepCause (D.faults disk.old.disk) (D.faults disk.new.disk)) }
+    ensures cause { StepCounted (D.faults disk.old.disk) (D.faults disk.new.disk) result }
 {
     let from = index.find(change.key.as_slice());
     let class = item_class(change);
@@ -159,7 +159,7 @@ pub fn assign<D: Disk, I: Index>(
         → IsPair changes.now moves.items i c m
         → m.left ≡ left_by (finite.get (I.entries index.now)) c) }
     ensures ends { AreEnds rooms.new.items }
-    ensures cause { IfErr result (HasStepCause (D.faults disk.old.disk) (D.faults disk.new.disk)) }
+    ensures cause { StepCounted (D.faults disk.old.disk) (D.faults disk.new.disk) result }
 {
     let mut moves = Vec::new(alloc);
     for change in changes {

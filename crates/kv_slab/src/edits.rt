@@ -10,7 +10,7 @@ ghost use Rattle.kv_model.specs.Recovery.{most_pages};
 ghost use Rattle.kv_model.specs.SlotBytes.{item_bytes, tombstone_bytes};
 ghost use Rattle.kv_model.specs.Slots.{Item, Tombstone};
 ghost use Rattle.kv_slot.specs.Overwrite.{overwritten};
-ghost use Rattle.kv_slab.specs.Fault.{HasStepCause};
+ghost use Rattle.kv_slab.specs.Fault.{StepCounted};
 ghost use Rattle.kv_slab.specs.Images.{IsSlotSet, StillLater};
 ghost use Rattle.kv_slab.specs.Large.{HaveStamp};
 ghost use Rattle.kv_slab.specs.Moves.{IsSlabPlace};
@@ -53,7 +53,7 @@ fn fetch<D: Disk>(
     ensures reads { ReadsAtMost ⟦<D as Disk>⟧ 1 disk.old.disk disk.new.disk }
     ensures content { IsTrue D.tells
         → OnOk result (content.new ≡ over (D.seen disk.old.disk) below.now file page) }
-    ensures cause { IfErr result (HasStepCause (D.faults disk.old.disk) (D.faults disk.new.disk)) }
+    ensures cause { StepCounted (D.faults disk.old.disk) (D.faults disk.new.disk) result }
 {
     match find(below, file, page) {
         Some(j) => {
@@ -118,7 +118,7 @@ fn bring<D: Disk>(
     ensures at { IfOk result (λ i. HasAt pages.new.items i file page) }
     ensures pages { ArePages pages.new.items }
     ensures count { length pages.new.items ≤ length pages.old.items + 1 }
-    ensures cause { IfErr result (HasStepCause (D.faults disk.old.disk) (D.faults disk.new.disk)) }
+    ensures cause { StepCounted (D.faults disk.old.disk) (D.faults disk.new.disk) result }
 {
     match find(pages, file, page) {
         Some(i) => Ok(i),
@@ -233,7 +233,7 @@ fn write_part<D: Disk>(
         (over (D.seen disk.old.disk) pages.new.items)) }
     ensures pages { ArePages pages.new.items }
     ensures count { length pages.new.items ≤ length pages.old.items + 1 }
-    ensures cause { IfErr result (HasStepCause (D.faults disk.old.disk) (D.faults disk.new.disk)) }
+    ensures cause { StepCounted (D.faults disk.old.disk) (D.faults disk.new.disk) result }
 {
     let (page, offset) = place_spot(place);
     let i = bring(disk, pages, &[], place.class, page)?;
@@ -315,7 +315,7 @@ pub fn write_item<D: Disk>(
         (large_slot (over (D.seen disk.old.disk) pages.new.items) place.class place.slot)) }
     ensures pages { ArePages pages.new.items }
     ensures count { length pages.new.items ≤ length pages.old.items + 16 }
-    ensures cause { IfErr result (HasStepCause (D.faults disk.old.disk) (D.faults disk.new.disk)) }
+    ensures cause { StepCounted (D.faults disk.old.disk) (D.faults disk.new.disk) result }
 {
     match place.class {
         0..=6 => write_part(disk, pages, place, stamp, key, value),
@@ -347,7 +347,7 @@ fn vacate_part<D: Disk>(
         (over (over (D.seen disk.old.disk) below.now) pages.new.items)) }
     ensures pages { ArePages pages.new.items }
     ensures count { length pages.new.items ≤ length pages.old.items + 1 }
-    ensures cause { IfErr result (HasStepCause (D.faults disk.old.disk) (D.faults disk.new.disk)) }
+    ensures cause { StepCounted (D.faults disk.old.disk) (D.faults disk.new.disk) result }
 {
     let (page, offset) = place_spot(place);
     let i = bring(disk, pages, below, place.class, page)?;
@@ -403,7 +403,7 @@ pub fn write_tombstone<D: Disk>(
         (over (over (D.seen disk.old.disk) below.now) pages.new.items)) }
     ensures pages { ArePages pages.new.items }
     ensures count { length pages.new.items ≤ length pages.old.items + 1 }
-    ensures cause { IfErr result (HasStepCause (D.faults disk.old.disk) (D.faults disk.new.disk)) }
+    ensures cause { StepCounted (D.faults disk.old.disk) (D.faults disk.new.disk) result }
 {
     if place.class < 7 {
         vacate_part(disk, pages, below, place, stamp, link)

@@ -1,17 +1,17 @@
 ghost use Rattle.std.specs.Prelude.{◌≡◌, ℕ, ◌+◌, ◌<◌, ◌≤◌, List, None, Some, IsTrue, IfOk, IfErr};
-ghost use Rattle.std.specs.Prelude.{◌-◌, ◌^◌, length, take, drop, map};
+ghost use Rattle.std.specs.Prelude.{◌-◌, ◌^◌, IfSome, length, take, drop, map};
 ghost use Rattle.std.specs.FinMap as finite;
 ghost use Rattle.std.specs.List.{range_with_len};
-ghost use Rattle.kv_model.specs.Layout.{all_classes, pages_in_slot, slot_size};
+ghost use Rattle.kv_model.specs.Layout.{all_classes, class_of, pages_in_slot, slot_size};
 ghost use Rattle.kv_model.specs.Reading.{slot_at};
 ghost use Rattle.kv_model.specs.Slots.{Item as Stored, read_large, read_small};
 ghost use Rattle.kv_slab.specs.Moves.{IsSlabPlace, ArePlaces};
 ghost use Rattle.kv_disk.specs.Steps.{ReadsAtMost};
-ghost use Rattle.kv_slab.specs.Fault.{HasStepCause};
+ghost use Rattle.kv_slab.specs.Fault.{StepCounted};
 ghost use Rattle.kv_index.specs.Entries.{HasNoneFrom};
 ghost use Rattle.kv_slab.specs.Counts.{pages_of_class, reads_for, NextReads};
 ghost use Rattle.kv_slab.specs.View.{HasItems, IsAnswer, IsNextItem, IsEntryItem, IsNextEntry};
-ghost use Rattle.kv_slab.specs.View.{map_of};
+ghost use Rattle.kv_slab.specs.View.{HasClass, map_of};
 
 use crate::change::Item;
 use crate::edits::place_spot;
@@ -38,6 +38,8 @@ fn value_in(
     ensures value { IfOk result (λ v. (stamp : ℕ) (key value : List ℕ)
         → read_small all_classes class
         (take (slot_size class) (drop offset page.now)) ≡ Stored stamp key value → v ≡ value) }
+    ensures fits { IfOk result (λ v. class_of all_classes (length key.now) (length v)
+        ≡ Some class) }
     ensures cause { IfErr result (λ fault. fault ≡ StepFault.NoMemory) }
 {
     match read_slot(page, class, offset) {
@@ -68,8 +70,10 @@ fn read_small_value<D: Disk>(
     ensures value { IsTrue D.tells → IfOk result (λ v. (stamp : ℕ) (key value : List ℕ)
         → slot_at all_classes (D.seen disk.old.disk) place.class place.slot
         ≡ Stored stamp key value → v ≡ value) }
+    ensures fits { IfOk result (λ v. class_of all_classes (length key.now) (length v)
+        ≡ Some place.class) }
     ensures reads { ReadsAtMost ⟦<D as Disk>⟧ 1 disk.old.disk disk.new.disk }
-    ensures cause { IfErr result (HasStepCause (D.faults disk.old.disk) (D.faults disk.new.disk)) }
+    ensures cause { StepCounted (D.faults disk.old.disk) (D.faults disk.new.disk) result }
 {
     let (number, offset) = place_spot(place);
     let mut page = [0; 4096];
@@ -105,7 +109,7 @@ fn read_pages<D: Disk>(
     ensures pages { IsTrue D.tells → IfOk result (λ pages. pages.items
         ≡ map (λ page. D.seen disk.old.disk file page) (range_with_len first count)) }
     ensures count { IfOk result (λ pages. length pages.items ≡ count) }
-    ensures cause { IfErr result (HasStepCause (D.faults disk.old.disk) (D.faults disk.new.disk)) }
+    ensures cause { StepCounted (D.faults disk.old.disk) (D.faults disk.new.disk) result }
 {
     let mut pages = PageList::with_room(alloc, count as usize)?;
     for number in 0..count {
@@ -128,6 +132,8 @@ fn large_value(
     requires pages { length pages.now ≡ pages_in_slot class }
     ensures value { IfOk result (λ v. (stamp : ℕ) (key value : List ℕ)
         → read_large all_classes class pages.now ≡ Stored stamp key value → v ≡ value) }
+    ensures fits { IfOk result (λ v. class_of all_classes (length key.now) (length v)
+        ≡ Some class) }
     ensures cause { IfErr result (λ fault. fault ≡ StepFault.NoMemory) }
 {
     match read_large(alloc, pages, class) {
@@ -160,9 +166,11 @@ fn read_large_value<D: Disk>(
     ensures value { IsTrue D.tells → IfOk result (λ v. (stamp : ℕ) (key value : List ℕ)
         → slot_at all_classes (D.seen disk.old.disk) place.class place.slot
         ≡ Stored stamp key value → v ≡ value) }
+    ensures fits { IfOk result (λ v. class_of all_classes (length key.now) (length v)
+        ≡ Some place.class) }
     ensures reads { ReadsAtMost ⟦<D as Disk>⟧ (pages_in_slot place.class) disk.old.disk
         disk.new.disk }
-    ensures cause { IfErr result (HasStepCause (D.faults disk.old.disk) (D.faults disk.new.disk)) }
+    ensures cause { StepCounted (D.faults disk.old.disk) (D.faults disk.new.disk) result }
 {
     let (first, _) = place_spot(place);
     let pages = read_pages(alloc, disk, place.class, first, slot_pages(place.class))?;
@@ -180,9 +188,11 @@ fn read_value<D: Disk>(
     ensures value { IsTrue D.tells → IfOk result (λ v. (stamp : ℕ) (key value : List ℕ)
         → slot_at all_classes (D.seen disk.old.disk) place.class place.slot
         ≡ Stored stamp key value → v ≡ value) }
+    ensures fits { IfOk result (λ v. class_of all_classes (length key.now) (length v)
+        ≡ Some place.class) }
     ensures reads { ReadsAtMost ⟦<D as Disk>⟧ (pages_of_class place.class) disk.old.disk
         disk.new.disk }
-    ensures cause { IfErr result (HasStepCause (D.faults disk.old.disk) (D.faults disk.new.disk)) }
+    ensures cause { StepCounted (D.faults disk.old.disk) (D.faults disk.new.disk) result }
 {
     if place.class <= 7 {
         read_small_value(alloc, disk, place, key)
@@ -205,9 +215,10 @@ pub fn find_item<D: Disk, I: Index>(
         (map_of (D.seen disk.old.disk) (finite.get (I.entries index.now)) key.now)) }
     ensures entry { IfOk result (λ item. IsEntryItem item key.now
         (finite.get (I.entries index.now) key.now)) }
+    ensures fits { IfOk result (λ item. IfSome item HasClass) }
     ensures reads { ReadsAtMost ⟦<D as Disk>⟧ (reads_for (finite.get (I.entries index.now) key.now))
         disk.old.disk disk.new.disk }
-    ensures cause { IfErr result (HasStepCause (D.faults disk.old.disk) (D.faults disk.new.disk)) }
+    ensures cause { StepCounted (D.faults disk.old.disk) (D.faults disk.new.disk) result }
 {
     match index.find(key) {
         Some(entry) => {
@@ -236,10 +247,11 @@ pub fn next_item<D: Disk, I: Index>(
         → IfOk result (λ item. IsNextItem (I.entries index.now) (D.seen disk.old.disk) key.now
         item) }
     ensures entry { IfOk result (λ item. IsNextEntry (I.entries index.now) key.now item) }
+    ensures fits { IfOk result (λ item. IfSome item HasClass) }
     ensures none { HasNoneFrom (I.entries index.now) key.now → disk.new ≡ disk.old }
     ensures reads { NextReads ⟦<D as Disk>⟧ (I.entries index.now) key.now disk.old.disk
         disk.new.disk }
-    ensures cause { IfErr result (HasStepCause (D.faults disk.old.disk) (D.faults disk.new.disk)) }
+    ensures cause { StepCounted (D.faults disk.old.disk) (D.faults disk.new.disk) result }
 {
     match index.next_at_or_after(key) {
         Some((key, entry)) => {

@@ -1,5 +1,5 @@
 ghost use Rattle.std.specs.Prelude.{◌≡◌, ℕ, ◌+◌, ◌*◌, ◌^◌, ◌<◌, ◌≤◌, List, Option, Some, OnOk};
-ghost use Rattle.std.specs.Prelude.{IfOk, IfErr, IfSome};
+ghost use Rattle.std.specs.Prelude.{IfOk, IfSome};
 ghost use Rattle.std.specs.Prelude.{IsTrue, length};
 ghost use Rattle.std.specs.Option.{ForSome};
 ghost use Rattle.std.specs.List.{slice_get};
@@ -15,7 +15,7 @@ ghost use Rattle.kv_slab.specs.Moves.{StillSecond, StillBeside, AreWhole, IsWhol
 ghost use Rattle.kv_slab.specs.Moves.{StampsUpTo};
 ghost use Rattle.kv_slab.specs.Pages.{over, ArePages};
 ghost use Rattle.kv_disk.specs.Steps.{ReadsAtMost};
-ghost use Rattle.kv_slab.specs.Fault.{HasStepCause};
+ghost use Rattle.kv_slab.specs.Fault.{StepCounted};
 
 use crate::change::Change;
 use crate::edits::{write_item, write_tombstone};
@@ -51,7 +51,7 @@ fn first_one<D: Disk>(
         → HasFloorUpTo bound (over (D.seen disk.old.disk) pages.new.items)) }
     ensures pages { ArePages pages.new.items }
     ensures count { length pages.new.items ≤ length pages.old.items + 16 }
-    ensures cause { IfErr result (HasStepCause (D.faults disk.old.disk) (D.faults disk.new.disk)) }
+    ensures cause { StepCounted (D.faults disk.old.disk) (D.faults disk.new.disk) result }
 {
     match to {
         Some(place) => match &change.value {
@@ -95,7 +95,7 @@ pub fn plan_first<D: Disk>(
         → HasFloorUpTo bound (over (D.seen disk.old.disk) pages.items)) }
     ensures pages { IfOk result (λ pages. ArePages pages.items) }
     ensures count { IfOk result (λ pages. length pages.items ≤ 16 * length changes.now) }
-    ensures cause { IfErr result (HasStepCause (D.faults disk.old.disk) (D.faults disk.new.disk)) }
+    ensures cause { StepCounted (D.faults disk.old.disk) (D.faults disk.new.disk) result }
 {
     let mut pages = Vec::new(alloc);
     for i in 0..changes.len() {
@@ -132,7 +132,7 @@ fn second_one<D: Disk>(
         → HasFloorUpTo bound (over (over (D.seen disk.old.disk) first.now) pages.new.items)) }
     ensures pages { ArePages pages.new.items }
     ensures count { length pages.new.items ≤ length pages.old.items + 1 }
-    ensures cause { IfErr result (HasStepCause (D.faults disk.old.disk) (D.faults disk.new.disk)) }
+    ensures cause { StepCounted (D.faults disk.old.disk) (D.faults disk.new.disk) result }
 {
     match left {
         Some(place) => write_tombstone(disk, pages, first, place, stamp, link),
@@ -170,7 +170,7 @@ pub fn plan_second<D: Disk>(
         → HasFloorUpTo bound (over (over (D.seen disk.old.disk) first.now) pages.items)) }
     ensures pages { IfOk result (λ pages. ArePages pages.items) }
     ensures count { IfOk result (λ pages. length pages.items ≤ length moves.now) }
-    ensures cause { IfErr result (HasStepCause (D.faults disk.old.disk) (D.faults disk.new.disk)) }
+    ensures cause { StepCounted (D.faults disk.old.disk) (D.faults disk.new.disk) result }
 {
     let mut pages = Vec::new(alloc);
     for i in 0..moves.len() {

@@ -1,5 +1,5 @@
 ghost use Rattle.std.specs.Prelude.{◌≡◌, ◌-◌, ◌^◌, ◌<◌, ◌≤◌, IsTrue, OnOk};
-ghost use Rattle.kv_base.specs.Fault.{HasCause};
+ghost use Rattle.kv_base.specs.Fault.{Counted};
 ghost use Rattle.kv_disk.specs.Steps.{ReadsAtMost};
 
 use kv_base::Failed;
@@ -17,7 +17,7 @@ pub fn read_page<D: Disk>(
     requires page { page < 2 ^ 32 - 1 }
     ensures content { IsTrue D.tells → OnOk result (content.new ≡ D.seen disk.old.disk file page) }
     ensures reads { ReadsAtMost ⟦<D as Disk>⟧ 1 disk.old.disk disk.new.disk }
-    ensures cause { HasCause (D.faults disk.old.disk) (D.faults disk.new.disk) result }
+    ensures counted { Counted (D.faults disk.old.disk) (D.faults disk.new.disk) result }
 {
     disk.page(file, page, content)
 }

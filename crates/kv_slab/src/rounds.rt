@@ -1,5 +1,5 @@
 ghost use Rattle.std.specs.Prelude.{◌≡◌, ◌+◌, ◌≤◌, ◌<◌, [], get_or, OnOk, IsTrue, length};
-ghost use Rattle.kv_base.specs.Fault.{HasCause};
+ghost use Rattle.kv_base.specs.Fault.{HasCause, Counted};
 ghost use Rattle.kv_base.specs.Crash.{Only, LeavesOnly};
 ghost use Rattle.kv_slab.specs.Images.{Mix};
 ghost use Rattle.kv_slab.specs.Pages.{over, ArePages, InRounds, IsOrder};
@@ -19,6 +19,7 @@ fn write_one<D: Disk>(disk: &mut Cached<D>, pages: &[Page], number: usize) -> Re
         → WritesPage ⟦<D as Disk>⟧ page.file page.page page.content disk.old.disk disk.new.disk
         result }
     ensures cause { HasCause (D.faults disk.old.disk) (D.faults disk.new.disk) result }
+    ensures counted { Counted (D.faults disk.old.disk) (D.faults disk.new.disk) result }
     ensures count { D.calls disk.new.disk ≤ D.calls disk.old.disk + 1 }
 {
     let page = &pages[number];
@@ -45,6 +46,7 @@ fn write_pages<D: Disk>(
     ensures durable { OnOk result (Only (D.seen disk.new.disk)
         (D.leaves disk.new.disk (D.calls disk.new.disk))) }
     ensures cause { HasCause (D.faults disk.old.disk) (D.faults disk.new.disk) result }
+    ensures counted { Counted (D.faults disk.old.disk) (D.faults disk.new.disk) result }
     ensures count { D.calls disk.new.disk ≤ D.calls disk.old.disk + length pages.now + 1 }
     ensures none { pages.now ≡ [] → disk.new ≡ disk.old }
 {
@@ -79,6 +81,7 @@ pub fn carry_out<D: Disk>(
     ensures durable { OnOk result (Only (D.seen disk.new.disk)
         (D.leaves disk.new.disk (D.calls disk.new.disk))) }
     ensures cause { HasCause (D.faults disk.old.disk) (D.faults disk.new.disk) result }
+    ensures counted { Counted (D.faults disk.old.disk) (D.faults disk.new.disk) result }
     ensures count { D.calls disk.new.disk ≤ D.calls disk.old.disk + length first.now
         + length second.now + 2 }
     ensures none { first.now ≡ [] → second.now ≡ [] → disk.new ≡ disk.old }

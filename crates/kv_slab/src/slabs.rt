@@ -1,8 +1,8 @@
 ghost use Rattle.std.specs.Prelude.{◌≡◌, ℕ, ◌+◌, ◌-◌, ◌*◌, ◌<◌, ◌≤◌, List, [], None, Some, IsTrue};
-ghost use Rattle.std.specs.Prelude.{IfOk, IfErr};
+ghost use Rattle.std.specs.Prelude.{IfOk, IfSome};
 ghost use Rattle.std.specs.Prelude.{OnOk, OnErr, true, false, length, option_map};
 ghost use Rattle.std.specs.FinMap as finite;
-ghost use Rattle.kv_base.specs.Fault.{HasCause};
+ghost use Rattle.kv_base.specs.Fault.{HasCause, Counted};
 ghost use Rattle.kv_base.specs.Image.{Image};
 ghost use Rattle.kv_base.specs.Limits.{AreLimits};
 ghost use Rattle.kv_base.specs.Crash.{LeavesOnly, MayLeave, Only};
@@ -10,7 +10,7 @@ ghost use Rattle.kv_disk.specs.Steps.{ReadsAtMost};
 ghost use Rattle.kv_index.specs.Entries.{HasNoneFrom};
 ghost use Rattle.kv_slab.specs.declared.change.Change.{Change as Changed};
 ghost use Rattle.kv_slab.specs.Moves.{AreUpTo, answer_after};
-ghost use Rattle.kv_slab.specs.Fault.{HasStepCause};
+ghost use Rattle.kv_slab.specs.Fault.{StepCounted};
 ghost use Rattle.kv_slab.specs.Memory.{AreCounted, AreFilled, HaveLengths, items_in, rooms_of};
 ghost use Rattle.kv_slab.specs.Floor.{HasFloorUpTo};
 ghost use Rattle.kv_slab.specs.Settled.{HasEntryAfter};
@@ -18,7 +18,7 @@ ghost use Rattle.kv_slab.specs.Rooms.{Rooms, AreRooms, rooms_after, needed, left
 ghost use Rattle.kv_slab.specs.Counts.{reads_for, NextReads};
 ghost use Rattle.kv_slab.specs.Plans.{HasPlan, MayPlan};
 ghost use Rattle.kv_slab.specs.View.{IsOpen, IsOfWorker, IsAnswer, IsNextItem, HasRooms};
-ghost use Rattle.kv_slab.specs.View.{IsEntryItem, IsNextEntry};
+ghost use Rattle.kv_slab.specs.View.{HasClass, IsEntryItem, IsNextEntry};
 ghost use Rattle.kv_slab.specs.View.{OldOrNewMap, KeepsMap, Stands, store_map};
 
 use crate::change::{Change, Item};
@@ -167,15 +167,16 @@ impl<D: Disk, I: Index> Slabs<D, I> {
         self.workers
     }
 
-    /// The key's item. `None` exactly where the key has no value. A read that fails shows in the
-    /// disk's count of faults. On a disk that doesn't tell what it reads, a slot that hasn't what
-    /// the store wrote there is answered `NoMemory` too.
+    /// The key's item. `None` exactly where the key has no value. A read that fails ends the call
+    /// with `DiskFault`, and is the one fault that the disk counts meanwhile. On a disk that doesn't
+    /// tell what it reads, a slot that hasn't what the store wrote there is answered `NoMemory` too.
     pub fn get(&mut self, alloc: Global, key: &[u8]) -> Result<Option<Item>, StepFault>
         requires { self.old.closed ≡ false }
         ensures answer { IsTrue D.tells → IfOk result (λ item. IsAnswer item key.now
             (store_map ⟦<D as Disk>⟧ ⟦<I as Index>⟧ self.old key.now)) }
         ensures entry { IfOk result (λ item. IsEntryItem item key.now
             (finite.get (I.entries self.old.index) key.now)) }
+        ensures fits { IfOk result (λ item. IfSome item HasClass) }
         ensures reads { ReadsAtMost ⟦<D as Disk>⟧
             (reads_for (finite.get (I.entries self.old.index) key.now))
             self.old.disk.disk self.new.disk.disk }
@@ -183,8 +184,8 @@ impl<D: Disk, I: Index> Slabs<D, I> {
         ensures plan { (changes : List Changed)
             → HasPlan ⟦<D as Disk>⟧ ⟦<I as Index>⟧ self.old changes
             → HasPlan ⟦<D as Disk>⟧ ⟦<I as Index>⟧ self.new changes }
-        ensures cause { IfErr result (HasStepCause (D.faults self.old.disk.disk)
-            (D.faults self.new.disk.disk)) }
+        ensures cause { StepCounted (D.faults self.old.disk.disk) (D.faults self.new.disk.disk)
+            result }
     {
         find_item(alloc, &mut self.disk, &self.index, key)
     }
@@ -197,6 +198,7 @@ impl<D: Disk, I: Index> Slabs<D, I> {
             (I.entries self.old.index) (D.seen self.old.disk.disk) key.now item) }
         ensures entry { IfOk result (λ item. IsNextEntry (I.entries self.old.index) key.now
             item) }
+        ensures fits { IfOk result (λ item. IfSome item HasClass) }
         ensures none { HasNoneFrom (I.entries self.old.index) key.now → self.new ≡ self.old }
         ensures reads { NextReads ⟦<D as Disk>⟧ (I.entries self.old.index) key.now
             self.old.disk.disk self.new.disk.disk }
@@ -204,8 +206,8 @@ impl<D: Disk, I: Index> Slabs<D, I> {
         ensures plan { (changes : List Changed)
             → HasPlan ⟦<D as Disk>⟧ ⟦<I as Index>⟧ self.old changes
             → HasPlan ⟦<D as Disk>⟧ ⟦<I as Index>⟧ self.new changes }
-        ensures cause { IfErr result (HasStepCause (D.faults self.old.disk.disk)
-            (D.faults self.new.disk.disk)) }
+        ensures cause { StepCounted (D.faults self.old.disk.disk) (D.faults self.new.disk.disk)
+            result }
     {
         next_item(alloc, &mut self.disk, &self.index, key)
     }
@@ -226,8 +228,8 @@ impl<D: Disk, I: Index> Slabs<D, I> {
           index = self.new.index;
           plan = self.new.plan;
         } }
-        ensures cause { IfErr result (HasStepCause (D.faults self.old.disk.disk)
-            (D.faults self.new.disk.disk)) }
+        ensures cause { StepCounted (D.faults self.old.disk.disk) (D.faults self.new.disk.disk)
+            result }
     {
         self.plan = None;
         let plan = make_plan(
@@ -244,7 +246,7 @@ impl<D: Disk, I: Index> Slabs<D, I> {
 
     /// Carries the plan that is kept out: pages with new items, a sync, pages with tombstones, a
     /// sync. At every moment meanwhile a crash leaves for each key its old or its new value. After
-    /// `WriteFault`, which the disk's count of faults shows, the store is closed. Takes no memory.
+    /// `WriteFault`, for which the disk counts one fault, the store is closed. Takes no memory.
     pub fn apply(&mut self) -> Result<(), WriteFault>
         requires opened { self.old.closed ≡ false }
         requires planned { (changes : List Changed)
@@ -293,6 +295,8 @@ impl<D: Disk, I: Index> Slabs<D, I> {
 
         // faults and calls
         ensures cause { HasCause (D.faults self.old.disk.disk) (D.faults self.new.disk.disk)
+            result }
+        ensures counted { Counted (D.faults self.old.disk.disk) (D.faults self.new.disk.disk)
             result }
         ensures count { (changes : List Changed)
             → HasPlan ⟦<D as Disk>⟧ ⟦<I as Index>⟧ self.old changes

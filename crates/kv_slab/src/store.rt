@@ -2,7 +2,7 @@ ghost use Rattle.std.specs.Prelude.{◌≡◌, ℕ, ◌+◌, ◌*◌, ◌<◌, �
 ghost use Rattle.std.specs.Prelude.{IfOk, IfErr, OnOk};
 ghost use Rattle.std.specs.Prelude.{OnErr, length, []};
 ghost use Rattle.std.specs.FinMap as finite;
-ghost use Rattle.kv_base.specs.Fault.{HasCause};
+ghost use Rattle.kv_base.specs.Fault.{HasCause, Counted};
 ghost use Rattle.kv_base.specs.Crash.{LeavesOnly};
 ghost use Rattle.kv_model.specs.Layout.{all_classes};
 ghost use Rattle.kv_model.specs.Reading.{slot_at};
@@ -14,7 +14,7 @@ ghost use Rattle.kv_slab.specs.Floor.{HasFloorUpTo};
 ghost use Rattle.kv_slab.specs.Settled.{HasEntryAfter};
 ghost use Rattle.kv_slab.specs.Pages.{ArePages, IsOrder};
 ghost use Rattle.kv_disk.specs.Steps.{ReadsAtMost};
-ghost use Rattle.kv_slab.specs.Fault.{HasStepCause};
+ghost use Rattle.kv_slab.specs.Fault.{StepCounted};
 ghost use Rattle.kv_slab.specs.Rooms.{Rooms, AreRooms, ArePlaced, AreLinked, rooms_after, needed};
 ghost use Rattle.kv_slab.specs.Rooms.{left_slots};
 ghost use Rattle.kv_slab.specs.Assigned.{AreEnds};
@@ -94,7 +94,7 @@ pub fn make_plan<D: Disk, I: Index>(
         (rooms_of plan.stacks.items plan.ends.items)) }
     ensures reads { ReadsAtMost ⟦<D as Disk>⟧ (3 * length changes.now) disk.old.disk disk.new.disk }
     ensures entries { I.entries index.new ≡ I.entries index.old }
-    ensures cause { IfErr result (HasStepCause (D.faults disk.old.disk) (D.faults disk.new.disk)) }
+    ensures cause { StepCounted (D.faults disk.old.disk) (D.faults disk.new.disk) result }
 {
     let count = count_of(index, changes.len())?;
     index.reserve(count)?;
@@ -200,6 +200,7 @@ pub fn carry<D: Disk, I: Index>(
     ensures sizes { (length stacks.old.items ≡ 12) × (length ends.old.items ≡ 12)
         → (length stacks.new.items ≡ 12) × (length ends.new.items ≡ 12) }
     ensures cause { HasCause (D.faults disk.old.disk) (D.faults disk.new.disk) result }
+    ensures counted { Counted (D.faults disk.old.disk) (D.faults disk.new.disk) result }
     ensures count { D.calls disk.new.disk ≤ D.calls disk.old.disk + length plan.first.items
         + length plan.second.items + 2 }
 {

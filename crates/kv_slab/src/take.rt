@@ -9,7 +9,7 @@ ghost use Rattle.kv_model.specs.Reading.{slot_at};
 ghost use Rattle.kv_index.specs.declared.entry.Entry.{Entry as Entered};
 ghost use Rattle.kv_slab.specs.Moves.{IsSlabPlace};
 ghost use Rattle.kv_disk.specs.Steps.{ReadsAtMost};
-ghost use Rattle.kv_slab.specs.Fault.{HasStepCause};
+ghost use Rattle.kv_slab.specs.Fault.{StepCounted};
 ghost use Rattle.kv_slab.specs.Rooms.{Free, Rooms, IsRoom, AreRooms, AreLinked, link_at};
 ghost use Rattle.kv_slab.specs.Rooms.{slot_class};
 ghost use Rattle.kv_slab.specs.Assigned.{HasTaken, Takes, AreEnds};
@@ -77,7 +77,7 @@ fn link_to_take<D: Disk>(
     ensures link { IsTrue D.tells → 64 < count → IfOk result (λ link. (stamp : ℕ)
         (there : Option ℕ) → slot_at all_classes (D.seen disk.old.disk) class slot
         ≡ Tombstone stamp there → link ≡ there) }
-    ensures cause { IfErr result (HasStepCause (D.faults disk.old.disk) (D.faults disk.new.disk)) }
+    ensures cause { StepCounted (D.faults disk.old.disk) (D.faults disk.new.disk) result }
 {
     if count <= KEPT {
         return Ok(None);
@@ -104,7 +104,7 @@ fn take_slot<D: Disk>(disk: &mut Cached<D>, class: u8, room: &mut Room) -> Resul
         × (slot_at all_classes (D.seen disk.old.disk) class s
         ≡ Tombstone stamp (link_at old.list j)))
         → (new : Free) × IsRoom room.new new × HasTaken slot old new) }
-    ensures cause { IfErr result (HasStepCause (D.faults disk.old.disk) (D.faults disk.new.disk)) }
+    ensures cause { StepCounted (D.faults disk.old.disk) (D.faults disk.new.disk) result }
 {
     match room.stack.last() {
         Some(slot) => {
@@ -175,7 +175,7 @@ pub fn place_for<D: Disk>(
         × (((slot_class from (Some class) ≡ None) × (new ≡ old)
         × (entry : Entered) × (from ≡ Some entry) × (place ≡ entry.place))
         ⊎ ((slot_class from (Some class) ≡ Some class) × Takes class place.slot old new))) }
-    ensures cause { IfErr result (HasStepCause (D.faults disk.old.disk) (D.faults disk.new.disk)) }
+    ensures cause { StepCounted (D.faults disk.old.disk) (D.faults disk.new.disk) result }
 {
     match place_kept(from, class) {
         Some(place) => Ok(place),

@@ -25,6 +25,7 @@ use Rattle.kv_slab.proofs.assign.assign.Goals as goal
 pub loop-change-init : goal.loop-change-init
 loop-change-init g c = record {
   reads = at_most-none g.D.Disk 0 c.args.disk.now.disk;
+  faults = refl;
   ends = c.requires.ends;
   count = ap length c.new-moves.ensures.items;
   counted = lengths-none (λ _. 0) (λ _. 0) c.args.rooms.now.items (λ _. (refl, refl));
@@ -73,6 +74,7 @@ loop-change-preserved g c =
     record {
       reads = at_most-then g.D.Disk c.loop-change.change-index 1 (c.loop-change.change-index + 1) _
           _ _ (omega arith) c.loop-change.invariant.reads c.assign_one.ensures.reads;
+      faults = c.in_ok-step.ensures.cause ∙ c.loop-change.invariant.faults;
       ends = c.assign_one.ensures.ends;
       count = ap length items ∙ length-append c.loop-change.moves.items (c.in_ok-step.step ∷ [])
           ∙ ap (λ n. n + 1) number;

@@ -15,6 +15,7 @@ use Rattle.kv_slab.proofs.assign.assign.Given as goal
 abbrev pub invariant-loop-change : goal.invariant-loop-change
 invariant-loop-change g l = record {
   reads : ReadsAtMost g.D.Disk l.change-index l.fn.disk.disk l.disk.disk;
+  faults : g.D.Disk.faults l.disk.disk ≡ g.D.Disk.faults l.fn.disk.disk;
   ends : AreEnds l.rooms.items;
   count : length l.moves.items ≡ l.change-index;
   counted : HaveLengths (needed (finite.get (g.I.Index.entries l.index))

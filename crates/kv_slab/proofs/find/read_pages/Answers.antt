@@ -23,6 +23,7 @@ loop-number-preserved g c =
     record {
       reads = at_most-then g.D.Disk c.loop-number.number 1 (c.loop-number.number + 1) _ _ _
           (omega arith) c.loop-number.invariant.reads c.read_page.ensures.reads;
+      faults = c.in_ok-read_page.ensures.counted ∙ c.loop-number.invariant.faults;
       room = omega arith;
       size = omega (
         arith,

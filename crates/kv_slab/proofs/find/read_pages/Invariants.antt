@@ -7,6 +7,7 @@ use Rattle.kv_slab.proofs.find.read_pages.Given as goal
 abbrev pub invariant-loop-number : goal.invariant-loop-number
 invariant-loop-number g l = record {
   reads : ReadsAtMost g.D.Disk l.number l.fn.disk.disk l.disk.disk;
+  faults : g.D.Disk.faults l.disk.disk ≡ g.D.Disk.faults l.fn.disk.disk;
   room : l.count ≤ l.pages.spare + l.number;
   size : length l.pages.items ≡ l.number;
   pages : IsTrue g.D.Disk.tells → l.pages.items

@@ -1,6 +1,6 @@
 use Rattle.std.specs.List.{slice_get}
 use Rattle.std.proofs.Common.{◌≡◌, ◌+◌, ℕ, List, Some, get_or, length, refl, sym, subst, ap, arith}
-use Rattle.std.proofs.Common.{◌≤◌}
+use Rattle.std.proofs.Common.{◌≤◌, ◌∙◌}
 use Rattle.std.proofs.lemmas.Option.{slice_get-get_or, slice_get_read}
 use Rattle.kv_base.specs.Image.{Image}
 use Rattle.kv_model.specs.Layout.{all_classes}
@@ -18,6 +18,7 @@ use Rattle.kv_slab.proofs.planning.plan_first.Goals as goal
 pub loop-i-init : goal.loop-i-init
 loop-i-init g c = record {
   reads = at_most-none g.D.Disk 0 c.args.disk.now.disk;
+  faults = refl;
   first = λ _ _.
       subst (λ (ps : List Page). FirstSoFar c.args.changes.now c.args.moves.now 0
       (slot_at all_classes (g.D.Disk.seen c.args.disk.now.disk))
@@ -66,6 +67,7 @@ loop-i-preserved g c =
     record {
       reads = at_most-then g.D.Disk c.loop-i.i 1 (c.loop-i.i + 1) _ _ _ (omega arith)
           c.loop-i.invariant.reads c.first_one.ensures.reads;
+      faults = c.in_ok-first_one.ensures.cause ∙ c.loop-i.invariant.faults;
       first = λ told apart.
           first_more c.args.changes.now c.args.moves.now c.loop-i.i
           (slot_at all_classes (g.D.Disk.seen c.args.disk.now.disk))

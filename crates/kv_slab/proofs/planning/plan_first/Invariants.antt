@@ -1,4 +1,4 @@
-use Rattle.std.proofs.Common.{◌≤◌, ◌*◌, ℕ, IsTrue, length}
+use Rattle.std.proofs.Common.{◌≡◌, ◌≤◌, ◌*◌, ℕ, IsTrue, length}
 use Rattle.kv_model.specs.Layout.{all_classes}
 use Rattle.kv_model.specs.Reading.{slot_at}
 use Rattle.kv_slab.specs.Pages.{over, ArePages}
@@ -10,6 +10,7 @@ use Rattle.kv_slab.proofs.planning.plan_first.Given as goal
 abbrev pub invariant-loop-i : goal.invariant-loop-i
 invariant-loop-i g l = record {
   reads : ReadsAtMost g.D.Disk l.i l.fn.disk.disk l.disk.disk;
+  faults : g.D.Disk.faults l.disk.disk ≡ g.D.Disk.faults l.fn.disk.disk;
   first : IsTrue g.D.Disk.tells → TargetsApart l.moves → FirstSoFar l.changes l.moves l.i
       (slot_at all_classes (g.D.Disk.seen l.fn.disk.disk)) (slot_at all_classes
       (over (g.D.Disk.seen l.fn.disk.disk) l.pages.items));

@@ -19,6 +19,7 @@ loop-i-init g c =
     let base = over (g.D.Disk.seen c.args.disk.now.disk) c.args.first.now in
     record {
       reads = at_most-none g.D.Disk 0 c.args.disk.now.disk;
+      faults = refl;
       second = λ _ _.
           subst (λ (ps : List Page). SecondSoFar c.args.moves.now c.args.links.now 0
           (slot_at all_classes base) (slot_at all_classes (over base ps)))
@@ -69,6 +70,7 @@ loop-i-preserved g c =
     record {
       reads = at_most-then g.D.Disk c.loop-i.i 1 (c.loop-i.i + 1) _ _ _ (omega arith)
           c.loop-i.invariant.reads c.second_one.ensures.reads;
+      faults = c.in_ok-second_one.ensures.cause ∙ c.loop-i.invariant.faults;
       second = λ told apart.
           second_more c.args.moves.now c.args.links.now c.loop-i.i (slot_at all_classes base)
           (slot_at all_classes (over base c.loop-i.pages.items))

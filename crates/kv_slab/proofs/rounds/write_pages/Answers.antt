@@ -1,5 +1,5 @@
 use Rattle.std.proofs.Common.{◌≡◌, ◌∙◌, ap, sym, subst, arith, inl, List, [], length, get_or, ℕ}
-use Rattle.std.proofs.Common.{◌<◌, ◌+◌}
+use Rattle.std.proofs.Common.{◌<◌, ◌+◌, refl}
 use Rattle.kv_base.specs.Image.{Image}
 use Rattle.kv_base.specs.Crash.{LeavesOnly}
 use Rattle.kv_base.proofs.CrashLemmas.{started, stays, writes_too}
@@ -30,7 +30,7 @@ loop-turn-init g c = record {
   crash = started (g.D.Disk.calls c.args.disk.now.disk) (g.D.Disk.leaves c.args.disk.now.disk) _
       (λ image left f p. inl (c.requires.settled f p (image f p) (left f p)));
   seen = λ _. written_none (g.D.Disk.seen c.args.disk.now.disk) c.args.pages.now c.args.order.now;
-  faults = omega arith;
+  faults = refl;
   count = omega arith;
 }
 
@@ -79,7 +79,7 @@ loop-turn-preserved g c =
           (λ d. ap (λ (key : ℕ × ℕ × ℕ). key.2) (same_default c.args.order.now c.loop-turn.turn d
           (0, 0, 0) c.loop-turn-test.true))
           (c.loop-turn.invariant.seen told));
-      faults = omega (arith, one.call.cause.later, c.loop-turn.invariant.faults);
+      faults = one.call.counted ∙ c.loop-turn.invariant.faults;
       count = omega (arith, one.call.past.counted, c.loop-turn.invariant.count);
     }
 

@@ -1,5 +1,6 @@
 -- What a worker's step over a batch does.
-use Rattle.std.specs.Prelude.{◌≡◌, ◌⊎◌, ℕ, ◌+◌, ◌-◌, ◌*◌, ◌<◌, ◌≤◌, List, [], ◌++◌, length, map}
+use Rattle.std.specs.Prelude.{◌≡◌, ◌≢◌, ◌⊎◌, ℕ, ◌+◌, ◌-◌, ◌*◌, ◌<◌, ◌≤◌, List, [], ◌++◌, length}
+use Rattle.std.specs.Prelude.{map}
 use Rattle.std.specs.Prelude.{true, false}
 use Rattle.std.specs.List.{AllByRecursion}
 use Rattle.kv_base.specs.Calls.{next_count}
@@ -63,6 +64,7 @@ pub record HasFailed {D I : Type 0} (d : disks.Ghosts D) (i : indexes.Ghosts I) 
     (requests : List Request) (base : ℕ) (replies : List Reply) : Type 0 where
   pub replies_are : replies
       ≡ failed_replies base requests (answers (start_of d i old) [] base requests)
+  pub changes : net_of (start_of d i old) base requests ≢ []
   pub closed : new.closed ≡ true
   pub counted : d.faults new.disk.disk ≡ next_count (d.faults old.disk.disk)
 

@@ -1,7 +1,13 @@
 //! A worker: it answers batches of requests from its store, and writes what they change.
 #![tactic(auto)]
 
+mod answer;
+mod append;
 mod batch;
+mod overlay;
+mod pass;
+mod room;
+mod value;
 mod worker;
 
 pub use batch::Batch;

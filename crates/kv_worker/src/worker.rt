@@ -68,6 +68,7 @@ impl<D: Disk + Drop, I: Index + Drop> Worker<D, I> {
         requires size { (1 ≤ length batch.old.items) × (length batch.old.items ≤ 512) }
         requires stamps { self.old.store.closed ≡ false → (self.old.highest < base)
             × (base + length batch.old.items ≤ 2 ^ 62) }
+        ensures spare { batch.new.spare ≡ batch.old.spare }
         ensures stepped { self.old.store.closed ≡ false → (replies : List ReplyOf)
             × AreAnswered batch.old.items batch.new.items replies
             × Steps ⟦<D as Disk>⟧ ⟦<I as Index>⟧ self.old self.new (requests_in batch.old.items)

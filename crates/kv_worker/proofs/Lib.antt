@@ -5,3 +5,4 @@ pub mod FitLemmas
 pub mod AnswerLemmas
 pub mod TaskLemmas
 pub mod BatchLemmas
+pub mod ChangeLemmas

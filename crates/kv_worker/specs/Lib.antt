@@ -5,3 +5,4 @@ pub mod Overlay
 pub mod Course
 pub mod Answering
 pub mod Reads
+pub mod Net

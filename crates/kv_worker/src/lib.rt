@@ -4,6 +4,7 @@
 mod answer;
 mod append;
 mod batch;
+mod net;
 mod overlay;
 mod pass;
 mod room;

@@ -1,4 +1,5 @@
 ghost use Rattle.std.specs.Prelude.{◌≡◌, ℕ, List, None, Some, IfOk, OnOk, if◌then◌else◌};
+ghost use Rattle.std.specs.HashMap.{hash_map_len};
 ghost use Rattle.std.specs.Str.{bytes_eq};
 ghost use Rattle.kv_worker.specs.Overlay.{last_of};
 
@@ -35,6 +36,13 @@ impl<'a> Overlay<'a> {
         ensures { result ≡ last_of self.now key.now }
     {
         self.lasts.get(key).copied()
+    }
+
+    /// The number of keys.
+    pub fn keys(&self) -> usize
+        ensures { result ≡ hash_map_len self.now.lasts }
+    {
+        self.lasts.len()
     }
 
     /// Makes this the last write of the key. The one error is want of memory.

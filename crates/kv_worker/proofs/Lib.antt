@@ -6,3 +6,5 @@ pub mod AnswerLemmas
 pub mod TaskLemmas
 pub mod BatchLemmas
 pub mod ChangeLemmas
+pub mod FillLemmas
+pub mod FailLemmas

@@ -6,3 +6,4 @@ pub mod Course
 pub mod Answering
 pub mod Reads
 pub mod Net
+pub mod Refusals

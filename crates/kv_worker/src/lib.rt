@@ -4,9 +4,12 @@
 mod answer;
 mod append;
 mod batch;
+mod fail;
+mod fill;
 mod net;
 mod overlay;
 mod pass;
+mod refusal;
 mod room;
 mod value;
 mod worker;

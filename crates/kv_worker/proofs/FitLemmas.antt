@@ -13,20 +13,8 @@ use Rattle.kv_model.specs.Frames.{HasReplyFrame}
 use Rattle.kv_model.specs.Layout.{all_classes, class_of, is_key_length, room_of}
 use Rattle.kv_slot.proofs.AgainLemmas.{room_limit}
 use Rattle.kv_slot.proofs.SlotLemmas.{class_holds}
+use Rattle.kv_worker.proofs.ListLemmas.{all-at}
 use Rattle.kv_worker.specs.Answering.{HasGoodSizes, value_of_request, value_written}
-
--- what holds of each request holds of the one with this number
-pub good-at : (P : Request → Type 0) (requests : List Request) (i : ℕ) (request : Request)
-    → AllByRecursion P requests → slice_get requests i ≡ Some request → P request
-good-at P [] i request all is = absurd (none is)
-  where
-    none : None ≡ Some request → ⊥
-    none e = cc
-good-at P (first ∷ requests) zero request all is = subst P (some is) all.0
-  where
-    some : Some first ≡ Some request → first ≡ request
-    some e = cc
-good-at P (first ∷ requests) (suc i) request all is = good-at P requests i request all.1 is
 
 -- what is found is one of the list
 found-in : (test : ℕ → Bool) (P : ℕ → Type 0) (xs : List ℕ) (x : ℕ) → AllByRecursion P xs
@@ -88,7 +76,7 @@ written-fits requests task value good is = by (slice_get requests task) refl is
     by (Some (Put key bytes)) e h =
         let same : bytes ≡ value = cc in
         let fits = class-fits (length key) (length bytes) (good-class key bytes
-        (good-at HasGoodSizes requests task (Put key bytes) good e)) in
+        (all-at HasGoodSizes requests task (Put key bytes) good e)) in
         subst (λ v. length v ≤ 65400) same (omega (arith, fits))
     by (Some (Get key)) e h = absurd (cc)
     by (Some (Delete key)) e h = absurd (cc)

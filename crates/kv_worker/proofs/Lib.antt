@@ -8,3 +8,11 @@ pub mod BatchLemmas
 pub mod ChangeLemmas
 pub mod FillLemmas
 pub mod FailLemmas
+pub mod ListLemmas
+pub mod StillLemmas
+pub mod ChangedLemmas
+pub mod NeededLemmas
+pub mod TaskWriteLemmas
+pub mod PlanLemmas
+pub mod RecoverLemmas
+pub mod PairLemmas

@@ -16,7 +16,8 @@ use Rattle.kv_slab.specs.Moves.{ArePlaces, IsSlabPlace}
 use Rattle.kv_slab.specs.View.{View, map_of, store_map}
 use Rattle.kv_slab.proofs.PageLemmas.{pages_few}
 use Rattle.kv_worker.specs.Reads.{HasRead, IsReady}
-use Rattle.kv_worker.specs.Worker.{start_of, value_told}
+use Rattle.kv_worker.specs.Worker.{start_of}
+use Rattle.kv_worker.proofs.StillLemmas.{still-read, start-still}
 
 pub read-none : {D I : Type 0} (d : disks.Ghosts D) (most : ℕ) (store : View D I)
     → HasRead d most store store
@@ -45,32 +46,10 @@ ready-read {D} {I} d i most old new ready read = record {
   places = subst (λ (v : View D I). ArePlaces (finite.get (i.entries v.index))) (sym read.rest) ready.places;
 }
 
-value-same : (tells : Bool) (a b : Answer) (entry : Option Entry) → (IsTrue tells → a ≡ b)
-    → value_told tells a entry ≡ value_told tells b entry
-value-same true a b entry same = ap (option_map (λ given. given.1)) (same refl)
-value-same false a b entry same = refl
-
-disk-start : {D I : Type 0} (d : disks.Ghosts D) (i : indexes.Ghosts I) (store new : View D I)
-    → (IsTrue d.tells → d.seen new.disk.disk ≡ d.seen store.disk.disk)
-    → start_of d i (record store { disk = new.disk }) ≡ start_of d i store
-disk-start d i store new same = λ j. record {
-  layout = all_classes;
-  limit = store.limits.slots;
-  value = λ key. value-same d.tells
-      (map_of (d.seen new.disk.disk) (finite.get (i.entries store.index)) key)
-      (map_of (d.seen store.disk.disk) (finite.get (i.entries store.index)) key)
-      (finite.get (i.entries store.index) key)
-      (λ tells. ap (λ (seen : Image). map_of seen (finite.get (i.entries store.index)) key)
-      (same tells)) j;
-  class = (start_of d i store).class;
-  items = (start_of d i store).items;
-}
-
 -- a batch finds the same
 pub start-read : {D I : Type 0} (d : disks.Ghosts D) (i : indexes.Ghosts I) (most : ℕ)
     (old new : View D I) → HasRead d most old new → start_of d i new ≡ start_of d i old
-start-read d i most old new read = ap (start_of d i) read.rest
-    ∙ disk-start d i old new read.reads.reads.seen
+start-read d i most old new read = start-still d i most old new (still-read d i most old new read)
 
 few-pages : (class : ℕ) → class ≤ 11 → pages_of_class class ≤ 16
 few-pages class limit = elim (cases_lt class 8) [

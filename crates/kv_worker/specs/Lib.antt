@@ -7,3 +7,4 @@ pub mod Answering
 pub mod Reads
 pub mod Net
 pub mod Refusals
+pub mod Open

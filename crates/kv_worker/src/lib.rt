@@ -9,6 +9,7 @@ mod fill;
 mod net;
 mod overlay;
 mod pass;
+mod prepare;
 mod refusal;
 mod room;
 mod value;

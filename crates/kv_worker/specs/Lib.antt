@@ -1,0 +1,10 @@
+pub mod Worker
+pub mod Batches
+pub mod Steps
+pub mod Overlay
+pub mod Course
+pub mod Answering
+pub mod Reads
+pub mod Net
+pub mod Refusals
+pub mod Open

@@ -9,7 +9,7 @@ ghost use Rattle.kv_base.specs.Crash.{LeavesOnly, MayLeave, Only};
 ghost use Rattle.kv_disk.specs.Steps.{ReadsAtMost};
 ghost use Rattle.kv_index.specs.Entries.{HasNoneFrom};
 ghost use Rattle.kv_slab.specs.declared.change.Change.{Change as Changed};
-ghost use Rattle.kv_slab.specs.Moves.{AreUpTo, answer_after};
+ghost use Rattle.kv_slab.specs.Moves.{AreUpTo, ArePlaces, answer_after};
 ghost use Rattle.kv_slab.specs.Fault.{StepCounted};
 ghost use Rattle.kv_slab.specs.Memory.{AreCounted, AreFilled, HaveLengths, items_in, rooms_of};
 ghost use Rattle.kv_slab.specs.Floor.{HasFloorUpTo};
@@ -149,6 +149,7 @@ impl<D: Disk, I: Index> Slabs<D, I> {
             → IsOfWorker self.now.worker self.now.workers image }
         ensures filled { AreFilled (I.entries self.now.index) self.now.rooms }
         ensures limits { AreLimits self.now.limits }
+        ensures places { result ≡ false → ArePlaces (finite.get (I.entries self.now.index)) }
     {
         self.closed
     }

@@ -27,3 +27,5 @@ pub mod FaultLemmas
 pub mod FitLemmas
 pub mod BatchLemmas
 pub mod PlacesLemmas
+pub mod ClassSums
+pub mod SpaceLemmas

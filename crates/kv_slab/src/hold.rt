@@ -25,7 +25,8 @@ pub fn hold(round: &mut Round, held: Page) -> Result<usize, StepFault>
     Ok(round.push(held)?)
 }
 
-/// Adds a page that is written whole. A page that is there already is answered by `NoMemory`.
+/// Adds a page that is written whole. One that is there already is answered by `NoMemory`: a slot
+/// was taken twice, by a link that the store didn't write.
 pub fn hold_whole(round: &mut Round, held: Page) -> Result<(), StepFault>
     requires file { (1 ≤ held.file) × (held.file ≤ 11) }
     requires page { held.page < most_pages held.file }

@@ -26,3 +26,6 @@ pub mod OrderLemmas
 pub mod FaultLemmas
 pub mod FitLemmas
 pub mod BatchLemmas
+pub mod PlacesLemmas
+pub mod ClassSums
+pub mod SpaceLemmas

@@ -26,3 +26,4 @@ pub mod OrderLemmas
 pub mod FaultLemmas
 pub mod FitLemmas
 pub mod BatchLemmas
+pub mod PlacesLemmas

@@ -103,6 +103,8 @@ pub fn make_plan<D: Disk, I: Index>(
     let links = leave(alloc, &mut now, &moves)?;
     let first = plan_first(alloc, disk, changes, &moves)?;
     let second = plan_second(alloc, disk, &first, &moves, &links)?;
+    let first = first.into_pages();
+    let second = second.into_pages();
     let first_order = order_of(alloc, &first)?;
     let second_order = order_of(alloc, &second)?;
     let (stacks, ends) = split_rooms(alloc, &now)?;

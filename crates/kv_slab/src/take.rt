@@ -15,9 +15,8 @@ ghost use Rattle.kv_slab.specs.Rooms.{slot_class};
 ghost use Rattle.kv_slab.specs.Assigned.{HasTaken, Takes, AreEnds};
 ghost use Rattle.kv_slab.specs.Memory.{HasLength, HaveLengths, new_in};
 
-use crate::edits::place_spot;
 use crate::fault::StepFault;
-use crate::read::read_page;
+use crate::read::{place_spot, read_page};
 use crate::room::Room;
 use kv_base::Place;
 use kv_cache::Cached;

@@ -5,6 +5,7 @@ use Rattle.std.specs.FinMap as finite
 use Rattle.kv_index.specs.Entries.{Entries}
 use Rattle.kv_slab.specs.declared.change.Change.{Change}
 use Rattle.kv_slab.specs.declared.moves.Move.{Move}
+use Rattle.kv_slab.specs.declared.page.Page.{Page}
 use Rattle.kv_slab.specs.declared.room.Room.{Room}
 use Rattle.kv_slab.specs.Moves.{ArePlaces, IsSlabPlace, IsPair, CanHoldAt}
 use Rattle.kv_slab.specs.Rooms.{AreRooms}
@@ -41,7 +42,7 @@ returns-in_err-first-clause-reads g c =
 pub plan_second-requires-clause-places : goal.plan_second-requires-clause-places
 plan_second-requires-clause-places g c =
     subst (λ (ms : List Move). (i : ℕ) (m : Move) → slice_get ms i ≡ Some m
-    → IfSome m.left (λ place. IsSlabPlace place)) (sym c.deref-4.ensures.value)
+    → IfSome m.left (λ place. IsSlabPlace place)) (sym c.deref-3.ensures.value)
     (left_small _ c.args.changes.now c.in_ok-moves.moves.items c.in_ok-moves.ensures.each
     (subst (λ (en : Entries). ArePlaces (finite.get en)) (sym c.reserve.ensures.kept)
     c.requires.places))
@@ -49,9 +50,9 @@ plan_second-requires-clause-places g c =
 pub returns-in_err-second-clause-reads : goal.returns-in_err-second-clause-reads
 returns-in_err-second-clause-reads g c =
     let n = length c.args.changes.now in
-    let moves : length c.deref-4.result.now ≡ n = ap length c.deref-4.ensures.value
+    let moves : length c.deref-3.result.now ≡ n = ap length c.deref-3.ensures.value
     ∙ c.in_ok-moves.ensures.each.count in
-    at_most-then g.D.Disk (2 * n) (length c.deref-4.result.now) (3 * n) c.args.disk.now.disk
+    at_most-then g.D.Disk (2 * n) (length c.deref-3.result.now) (3 * n) c.args.disk.now.disk
     c.plan_first.new.disk.disk c.plan_second.new.disk.disk (omega arith)
     (at_most-then g.D.Disk n n (2 * n) c.args.disk.now.disk c.assign.new.disk.disk
     c.plan_first.new.disk.disk (omega arith) c.assign.ensures.reads c.plan_first.ensures.reads)
@@ -60,9 +61,9 @@ returns-in_err-second-clause-reads g c =
 pub returns-clause-reads : goal.returns-clause-reads
 returns-clause-reads g c =
     let n = length c.args.changes.now in
-    let moves : length c.deref-4.result.now ≡ n = ap length c.deref-4.ensures.value
+    let moves : length c.deref-3.result.now ≡ n = ap length c.deref-3.ensures.value
     ∙ c.in_ok-moves.ensures.each.count in
-    at_most-then g.D.Disk (2 * n) (length c.deref-4.result.now) (3 * n) c.args.disk.now.disk
+    at_most-then g.D.Disk (2 * n) (length c.deref-3.result.now) (3 * n) c.args.disk.now.disk
     c.plan_first.new.disk.disk c.plan_second.new.disk.disk (omega arith)
     (at_most-then g.D.Disk n n (2 * n) c.args.disk.now.disk c.assign.new.disk.disk
     c.plan_first.new.disk.disk (omega arith) c.assign.ensures.reads c.plan_first.ensures.reads)
@@ -71,9 +72,9 @@ returns-clause-reads g c =
 pub returns-in_err-stacks-clause-reads : goal.returns-in_err-stacks-clause-reads
 returns-in_err-stacks-clause-reads g c =
     let n = length c.args.changes.now in
-    let moves : length c.deref-4.result.now ≡ n = ap length c.deref-4.ensures.value
+    let moves : length c.deref-3.result.now ≡ n = ap length c.deref-3.ensures.value
     ∙ c.in_ok-moves.ensures.each.count in
-    at_most-then g.D.Disk (2 * n) (length c.deref-4.result.now) (3 * n) c.args.disk.now.disk
+    at_most-then g.D.Disk (2 * n) (length c.deref-3.result.now) (3 * n) c.args.disk.now.disk
     c.plan_first.new.disk.disk c.plan_second.new.disk.disk (omega arith)
     (at_most-then g.D.Disk n n (2 * n) c.args.disk.now.disk c.assign.new.disk.disk
     c.plan_first.new.disk.disk (omega arith) c.assign.ensures.reads c.plan_first.ensures.reads)
@@ -82,9 +83,9 @@ returns-in_err-stacks-clause-reads g c =
 pub returns-in_err-first_order-clause-reads : goal.returns-in_err-first_order-clause-reads
 returns-in_err-first_order-clause-reads g c =
     let n = length c.args.changes.now in
-    let moves : length c.deref-4.result.now ≡ n = ap length c.deref-4.ensures.value
+    let moves : length c.deref-3.result.now ≡ n = ap length c.deref-3.ensures.value
     ∙ c.in_ok-moves.ensures.each.count in
-    at_most-then g.D.Disk (2 * n) (length c.deref-4.result.now) (3 * n) c.args.disk.now.disk
+    at_most-then g.D.Disk (2 * n) (length c.deref-3.result.now) (3 * n) c.args.disk.now.disk
     c.plan_first.new.disk.disk c.plan_second.new.disk.disk (omega arith)
     (at_most-then g.D.Disk n n (2 * n) c.args.disk.now.disk c.assign.new.disk.disk
     c.plan_first.new.disk.disk (omega arith) c.assign.ensures.reads c.plan_first.ensures.reads)
@@ -93,9 +94,9 @@ returns-in_err-first_order-clause-reads g c =
 pub returns-in_err-second_order-clause-reads : goal.returns-in_err-second_order-clause-reads
 returns-in_err-second_order-clause-reads g c =
     let n = length c.args.changes.now in
-    let moves : length c.deref-4.result.now ≡ n = ap length c.deref-4.ensures.value
+    let moves : length c.deref-3.result.now ≡ n = ap length c.deref-3.ensures.value
     ∙ c.in_ok-moves.ensures.each.count in
-    at_most-then g.D.Disk (2 * n) (length c.deref-4.result.now) (3 * n) c.args.disk.now.disk
+    at_most-then g.D.Disk (2 * n) (length c.deref-3.result.now) (3 * n) c.args.disk.now.disk
     c.plan_first.new.disk.disk c.plan_second.new.disk.disk (omega arith)
     (at_most-then g.D.Disk n n (2 * n) c.args.disk.now.disk c.assign.new.disk.disk
     c.plan_first.new.disk.disk (omega arith) c.assign.ensures.reads c.plan_first.ensures.reads)
@@ -106,17 +107,25 @@ returns-clause-told g c = λ told start rooms placed linked.
     let so_far = c.in_ok-moves.ensures.assigned told start (subst
     (λ (kept : List Room). AreRooms kept start) (sym c.in_ok-now.ensures.ok) rooms) placed
     linked in
-    subst (λ (k : List Room). PlannedFor (g.D.Disk.seen c.args.disk.now.disk)
-    (finite.get (g.I.Index.entries c.reserve.new.self)) start c.args.changes.now
-    c.in_ok-moves.moves.items c.in_ok-first.first.items c.in_ok-second.second.items k)
-    (sym (c.in_ok-stacks.ensures.ok ∙ c.deref-8.ensures.value))
+    let seen = g.D.Disk.seen c.args.disk.now.disk in
+    let index = finite.get (g.I.Index.entries c.reserve.new.self) in
+    let changes = c.args.changes.now in
+    let moves = c.in_ok-moves.moves.items in
+    subst (λ (ps : List Page). PlannedFor seen index start changes moves ps
+    c.into_pages-second.result.items (rooms_of c.in_ok-stacks.stacks.items
+    c.in_ok-stacks.ends.items)) (sym c.into_pages-first.ensures)
+    (subst (λ (ps : List Page). PlannedFor seen index start changes moves c.in_ok-first.first ps
+    (rooms_of c.in_ok-stacks.stacks.items c.in_ok-stacks.ends.items))
+    (sym c.into_pages-second.ensures)
+    (subst (λ (k : List Room). PlannedFor seen index start changes moves c.in_ok-first.first
+    c.in_ok-second.second k) (sym (c.in_ok-stacks.ensures.ok ∙ c.deref-7.ensures.value))
     (planned_for (g.D.Disk.seen c.args.disk.now.disk) (g.D.Disk.seen c.assign.new.disk.disk)
     (g.D.Disk.seen c.plan_first.new.disk.disk) _ start so_far.0 c.args.changes.now
-    c.in_ok-moves.moves.items c.deref.result.now c.deref-2.result.now c.deref-4.result.now
-    c.in_ok-first.first.items c.deref-3.result.now c.in_ok-second.second.items
-    c.in_ok-links.links.items c.deref-5.result.now c.leave.new.rooms.items
-    c.deref.ensures.value c.deref-2.ensures.value c.deref-4.ensures.value c.deref-3.ensures.value
-    c.deref-5.ensures.value
+    c.in_ok-moves.moves.items c.deref.result.now c.deref-2.result.now c.deref-3.result.now
+    c.in_ok-first.first c.in_ok-first.first c.in_ok-second.second
+    c.in_ok-links.links.items c.deref-4.result.now c.leave.new.rooms.items
+    c.deref.ensures.value c.deref-2.ensures.value c.deref-3.ensures.value refl
+    c.deref-4.ensures.value
     (c.assign.ensures.reads.reads.seen told) (c.plan_first.ensures.reads.reads.seen told
     ∙ c.assign.ensures.reads.reads.seen told)
     c.requires.distinct c.in_ok-moves.ensures.each.count so_far.2 so_far.3
@@ -125,7 +134,7 @@ returns-clause-told g c = λ told start rooms placed linked.
     (c.in_ok-second.ensures.second told) (c.in_ok-second.ensures.still told)
     (c.in_ok-first.ensures.whole told) (c.in_ok-second.ensures.later told)
     (c.in_ok-first.ensures.floor told) (c.in_ok-second.ensures.floor told)
-    (stamps_of _ c.args.changes.now c.in_ok-moves.moves.items c.in_ok-moves.ensures.each))
+    (stamps_of _ c.args.changes.now c.in_ok-moves.moves.items c.in_ok-moves.ensures.each))))
 
 pub returns-clause-lengths : goal.returns-clause-lengths
 returns-clause-lengths g c =
@@ -147,6 +156,6 @@ returns-clause-lengths g c =
     c.in_ok-moves.ensures.each.count c.in_ok-moves.ensures.lefts) all in
     subst (λ (ks : List Room). HaveLengths t (λ k. length (left_slots index changes k))
     (rooms_of c.args.stacks.now c.args.ends.now) ks) (sym
-    (c.in_ok-stacks.ensures.ok ∙ c.deref-8.ensures.value))
+    (c.in_ok-stacks.ensures.ok ∙ c.deref-7.ensures.value))
     (subst (λ (ks : List Room). HaveLengths t (λ k. length (left_slots index changes k)) ks
     c.leave.new.rooms.items) kept same)

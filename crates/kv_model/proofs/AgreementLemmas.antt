@@ -52,6 +52,15 @@ pub SameValue-refl : (told : Bool) (value : Option (List ℕ)) → SameValue tol
 SameValue-refl told None = tt
 SameValue-refl told (Some value) = λ _. refl
 
+-- what is the same as one value, which is the same as another, is the same as that
+pub SameValue-trans : (told : Bool) (a b c : Option (List ℕ)) → SameValue told a b
+    → SameValue told b c → SameValue told a c
+SameValue-trans told None None c first second = second
+SameValue-trans told None (Some b) c first second = absurd first
+SameValue-trans told (Some a) None c first second = absurd first
+SameValue-trans told (Some a) (Some b) None first second = second
+SameValue-trans told (Some a) (Some b) (Some c) first second = λ yes. first yes ∙ second yes
+
 none-of : (told : Bool) (kept : Option (List ℕ)) → SameValue told None kept → kept ≡ None
 none-of told None same = refl
 none-of told (Some kept) same = absurd same
@@ -137,7 +146,7 @@ SameValue-behind told start before stamp request history key below equal =
         ((bytes_eq-Decides w.write.key key).0 same) w.absent) equal))
 
 -- the class that is full is the item's
-full-is : (class : Option ℕ) (test : ℕ → Bool) (full : ℕ)
+pub full-is : (class : Option ℕ) (test : ℕ → Bool) (full : ℕ)
     → option_and_then (λ c. cond (test c) (Some c) None) class ≡ Some full → class ≡ Some full
 full-is None test full e = e
 full-is (Some class) test full e = by (test class) e

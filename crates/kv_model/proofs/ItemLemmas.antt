@@ -94,12 +94,12 @@ one_start history base start other begins also layout limit = λ i. record {
 } where
   values : (key : List ℕ) → start.value key ≡ other.value key
   values key = same_values (start.value key) (other.value key) (value_at history (base - 1) key)
-      (begins.value key) (also.value key)
+      (begins.follows.value key) (also.follows.value key)
 
   classes : (key : List ℕ) → start.class key ≡ other.class key
-  classes key = begins.class key
+  classes key = begins.follows.class refl key
       ∙ ap (λ l. class_with l key (value_at history (base - 1) key)) layout
-      ∙ sym (also.class key)
+      ∙ sym (also.follows.class refl key)
 
   counts : (class : ℕ) → start.items class ≡ other.items class
   counts class =

@@ -16,3 +16,7 @@ pub mod LookupLemmas
 pub mod OracleLemmas
 pub mod RecoveryLemmas
 pub mod ItemLemmas
+pub mod FailedLemmas
+pub mod RefusalLemmas
+pub mod KeptLemmas
+pub mod PrefixLemmas

@@ -8,6 +8,17 @@ pub All-append : {X : Type 0} (P : X → Type 0) (xs ys : List X) → AllByRecur
 All-append P [] ys first second = second
 All-append P (x ∷ xs) ys first second = (first.0, All-append P xs ys first.1 second)
 
+-- what holds of each element of two lists, one behind the other, holds of those of each
+pub All-front : {X : Type 0} (P : X → Type 0) (xs ys : List X) → AllByRecursion P (xs ++ ys)
+    → AllByRecursion P xs
+All-front P [] ys all = tt
+All-front P (x ∷ xs) ys all = (all.0, All-front P xs ys all.1)
+
+pub All-rest : {X : Type 0} (P : X → Type 0) (xs ys : List X) → AllByRecursion P (xs ++ ys)
+    → AllByRecursion P ys
+All-rest P [] ys all = all
+All-rest P (x ∷ xs) ys all = All-rest P xs ys all.1
+
 pub All-map : {X : Type 0} (P Q : X → Type 0) (xs : List X) → ((x : X) → P x → Q x)
     → AllByRecursion P xs → AllByRecursion Q xs
 All-map P Q [] each all = tt

@@ -32,6 +32,13 @@ AllBelow-append stamp [] others all more = more
 AllBelow-append stamp (write ∷ writes) others all more =
     (all.0, AllBelow-append stamp writes others all.1 more)
 
+-- writes below the bound are up to each stamp that isn't below the bound's predecessor
+pub up_to : (bound stamp : ℕ) (history : List Write) → bound ≤ stamp + 1 → AllBelow bound history
+    → AllByRecursion (λ write. write.stamp ≤ stamp) history
+up_to bound stamp [] le below = tt
+up_to bound stamp (write ∷ history) le below =
+    (omega (arith, below.0), up_to bound stamp history le below.1)
+
 pub RiseBetween-le : (low high : ℕ) (writes : List Write) → RiseBetween low high writes → low ≤ high
 RiseBetween-le low high [] rise = rise
 RiseBetween-le low high (write ∷ writes) rise =

@@ -17,6 +17,7 @@ use Rattle.kv_model.specs.Agreement.{AgreesWithMap, IsAnswer, IsMapAnswer, IsRea
 use Rattle.kv_model.specs.Agreement.{told_of}
 use Rattle.kv_model.specs.Batch.{IsTask}
 use Rattle.kv_model.specs.BatchLaws.{pairs_of}
+use Rattle.kv_model.proofs.PairwiseLemmas.{All-append, All-front, All-rest}
 
 stamp-told : (told : Bool) (reply : Reply) → stamp_of (told_of told reply) ≡ stamp_of reply
 stamp-told told (Found stamp value) = refl
@@ -138,37 +139,23 @@ same-answers (request ∷ requests) (reply ∷ replies) (answer ∷ answers) tol
           all.1,
     )
 
-front : (P : Pair → Type 0) (xs ys : List Pair) → AllByRecursion P (xs ++ ys) → AllByRecursion P xs
-front P [] ys all = tt
-front P (x ∷ xs) ys all = (all.0, front P xs ys all.1)
-
-rest : (P : Pair → Type 0) (xs ys : List Pair) → AllByRecursion P (xs ++ ys) → AllByRecursion P ys
-rest P [] ys all = all
-rest P (x ∷ xs) ys all = rest P xs ys all.1
-
-both : (P : Pair → Type 0) (xs ys : List Pair) → AllByRecursion P xs → AllByRecursion P ys
-    → AllByRecursion P (xs ++ ys)
-both P [] ys a b = b
-both P (x ∷ xs) ys a b = (a.0, both P xs ys a.1 b)
-
-pub as-told : (told : Bool) (layout : Layout) (before : List Write) (floor : ℕ)
-    (pairs : List Pair) (requests : List Request) (replies answers : List Reply)
-    → map (told_of told) replies ≡ map (told_of told) answers
-    → AllByRecursion (IsTask layout) requests
-    → AgreesWithMap told layout before floor (pairs ++ pairs_of requests answers)
-    → AgreesWithMap told layout before floor (pairs ++ pairs_of requests replies)
-as-told told layout before floor pairs requests replies answers same good agrees =
-    let old : List Pair = pairs_of requests answers in
-    let new : List Pair = pairs_of requests replies in
+-- pairs with the same stamps and writes, whose replies are the map's where the others' are, agree
+-- with it as they do
+pub agrees-as : (told : Bool) (layout : Layout) (before : List Write) (floor : ℕ)
+    (pairs old new : List Pair) → stamps old ≡ stamps new → writes old ≡ writes new
+    → ((history : List Write)
+    → AllByRecursion (λ pair. IsAnswer told layout history pair.request pair.reply) old
+    → AllByRecursion (λ pair. IsAnswer told layout history pair.request pair.reply) new)
+    → AgreesWithMap told layout before floor (pairs ++ old)
+    → AgreesWithMap told layout before floor (pairs ++ new)
+agrees-as told layout before floor pairs old new stamped wrote answered agrees =
     let s : stamps (pairs ++ old) ≡ stamps (pairs ++ new) =
     filter_map-append (λ pair. stamp_of pair.reply) pairs old
-    ∙ ap (λ l. stamps pairs ++ l) (sym (same-map (λ pair. stamp_of pair.reply) told
-    (λ request reply. stamp-told told reply) requests replies answers same))
+    ∙ ap (λ l. stamps pairs ++ l) stamped
     ∙ sym (filter_map-append (λ pair. stamp_of pair.reply) pairs new) in
     let w : writes (pairs ++ old) ≡ writes (pairs ++ new) =
     filter_map-append acknowledged pairs old
-    ∙ ap (λ l. writes pairs ++ l) (sym (same-map acknowledged told
-    (λ request reply. acknowledged-told told request reply) requests replies answers same))
+    ∙ ap (λ l. writes pairs ++ l) wrote
     ∙ sym (filter_map-append acknowledged pairs new) in
     let P : List Write → Pair → Type 0 = λ all pair. IsAnswer told layout (before ++ all)
     pair.request pair.reply in
@@ -178,8 +165,23 @@ as-told told layout before floor pairs requests replies answers same good agrees
       fresh = subst (AllByRecursion (λ stamp. AllByRecursion (λ write. write.stamp < stamp) before))
           s agrees.fresh;
       replies = subst (λ all. AllByRecursion (P all) (pairs ++ new)) w
-          (both (P (writes (pairs ++ old))) pairs new
-          (front (P (writes (pairs ++ old))) pairs old agrees.replies)
-          (same-answers requests replies answers told layout (before ++ writes (pairs ++ old)) same
-          good (rest (P (writes (pairs ++ old))) pairs old agrees.replies)));
+          (All-append (P (writes (pairs ++ old))) pairs new
+          (All-front (P (writes (pairs ++ old))) pairs old agrees.replies)
+          (answered (before ++ writes (pairs ++ old))
+          (All-rest (P (writes (pairs ++ old))) pairs old agrees.replies)));
     }
+
+pub as-told : (told : Bool) (layout : Layout) (before : List Write) (floor : ℕ)
+    (pairs : List Pair) (requests : List Request) (replies answers : List Reply)
+    → map (told_of told) replies ≡ map (told_of told) answers
+    → AllByRecursion (IsTask layout) requests
+    → AgreesWithMap told layout before floor (pairs ++ pairs_of requests answers)
+    → AgreesWithMap told layout before floor (pairs ++ pairs_of requests replies)
+as-told told layout before floor pairs requests replies answers same good agrees =
+    agrees-as told layout before floor pairs (pairs_of requests answers)
+    (pairs_of requests replies)
+    (sym (same-map (λ pair. stamp_of pair.reply) told
+    (λ request reply. stamp-told told reply) requests replies answers same))
+    (sym (same-map acknowledged told
+    (λ request reply. acknowledged-told told request reply) requests replies answers same))
+    (λ history all. same-answers requests replies answers told layout history same good all) agrees

@@ -15,31 +15,15 @@ use Rattle.kv_model.specs.History.{Write}
 use Rattle.kv_model.specs.Layout.{Layout}
 use Rattle.kv_model.specs.Pairs.{Pair, acknowledged, acknowledged_by, stamp_of, stamps, writes}
 use Rattle.kv_model.specs.Agreement.{AgreesWithMap, IsAnswer, IsMapAnswer, IsRead, refusal_of}
-use Rattle.kv_model.specs.Batch.{IsTask, Start, behind, answers, reply_of}
-use Rattle.kv_model.specs.Items.{BeginsAt}
-use Rattle.kv_model.specs.BatchLaws.{pairs_of}
+use Rattle.kv_model.specs.Batch.{IsTask, Start, answers}
+use Rattle.kv_model.specs.Items.{FollowsHistory}
+use Rattle.kv_model.specs.BatchLaws.{pairs_of, AreStamped}
+use Rattle.kv_model.proofs.PairwiseLemmas.{All-append, All-map, Pairwise-append}
 use Rattle.kv_model.proofs.ReadingLemmas.{AllBelow, AllFrom, RiseBetween-from, AllBelow-append}
 use Rattle.kv_model.proofs.ReadingLemmas.{AllBelow-weaken}
-use Rattle.kv_model.proofs.AnswersLemmas.{HasStamp, HasStamp-reply, cons-is}
-use Rattle.kv_model.proofs.AnswersLemmas.{RiseBetween-acknowledged_in}
+use Rattle.kv_model.proofs.AnswersLemmas.{HasStamp, AreStamped-answers, cons-is}
+use Rattle.kv_model.proofs.AnswersLemmas.{acknowledged_in, RiseBetween-acknowledged_in}
 use Rattle.kv_model.proofs.AgreementLemmas.{value-append-above, AllFrom-weaken, answers-agree}
-
-All-both : {X : Type 0} (P : X → Type 0) (xs ys : List X) → AllByRecursion P xs → AllByRecursion P
-    ys
-    → AllByRecursion P (xs ++ ys)
-All-both P [] ys first second = second
-All-both P (x ∷ xs) ys first second = (first.0, All-both P xs ys first.1 second)
-
-All-map : {X : Type 0} (P Q : X → Type 0) (xs : List X) → ((x : X) → P x → Q x)
-    → AllByRecursion P xs → AllByRecursion Q xs
-All-map P Q [] each all = tt
-All-map P Q (x ∷ xs) each all = (each x all.0, All-map P Q xs each all.1)
-
-Pairwise-both : {X : Type 0} (R : X → X → Type 0) (xs ys : List X) → Pairwise R xs → Pairwise R ys
-    → AllByRecursion (λ x. AllByRecursion (R x) ys) xs → Pairwise R (xs ++ ys)
-Pairwise-both R [] ys first second across = second
-Pairwise-both R (x ∷ xs) ys first second across =
-    (All-both (R x) xs ys first.0 across.0, Pairwise-both R xs ys first.1 second across.1)
 
 -- the stamp that the reply carries, if it does, is below this one
 abbrev pub IsBelowStamp : ℕ → Pair → Type 0
@@ -118,20 +102,20 @@ earlier (pair ∷ pairs) told layout history more base above below all = (
 )
 
 -- the stamps of a batch lie in its block, and differ
-stamps-within : (requests : List Request) (start : Start) (before : List Write) (stamp : ℕ)
+pub stamps-within : (requests : List Request) (replies : List Reply) (stamp : ℕ)
+    → AreStamped stamp replies
     → AllByRecursion (λ s. (stamp ≤ s) × (s < stamp + length requests))
-    (stamps (pairs_of requests (answers start before stamp requests)))
-stamps-within [] start before stamp = tt
-stamps-within (request ∷ requests) start before stamp =
-    by (stamp_of (reply_of start before stamp request)) (HasStamp-reply request start before stamp)
+    (stamps (pairs_of requests replies))
+stamps-within [] replies stamp are = tt
+stamps-within (request ∷ requests) [] stamp are = tt
+stamps-within (request ∷ requests) (reply ∷ replies) stamp are = by (stamp_of reply) are.0
     (All-map (λ s. (stamp + 1 ≤ s) × (s < stamp + 1 + length requests))
     (λ s. (stamp ≤ s) × (s < stamp + length (request ∷ requests))) rest
     (λ s h. (omega (arith, h.0), omega (arith, h.1)))
-    (stamps-within requests start (behind start before stamp request) (stamp + 1)))
+    (stamps-within requests replies (stamp + 1) are.1))
   where
     rest : List ℕ
-    rest = stamps (pairs_of requests (answers start (behind start before stamp request) (stamp + 1)
-        requests))
+    rest = stamps (pairs_of requests replies)
 
     by : (carried : Option ℕ) → HasStamp stamp carried
         → AllByRecursion (λ s. (stamp ≤ s) × (s < stamp + length (request ∷ requests))) rest
@@ -140,18 +124,17 @@ stamps-within (request ∷ requests) start before stamp =
     by None has all = all
     by (Some s) has all = ((omega (arith, has), omega (arith, has)), all)
 
-stamps-differ : (requests : List Request) (start : Start) (before : List Write) (stamp : ℕ)
-    → Pairwise (λ s other. s ≢ other) (stamps (pairs_of requests (answers start before stamp
-    requests)))
-stamps-differ [] start before stamp = tt
-stamps-differ (request ∷ requests) start before stamp =
-    by (stamp_of (reply_of start before stamp request)) (HasStamp-reply request start before stamp)
-    (stamps-within requests start (behind start before stamp request) (stamp + 1))
-    (stamps-differ requests start (behind start before stamp request) (stamp + 1))
+pub stamps-differ : (requests : List Request) (replies : List Reply) (stamp : ℕ)
+    → AreStamped stamp replies
+    → Pairwise (λ s other. s ≢ other) (stamps (pairs_of requests replies))
+stamps-differ [] replies stamp are = tt
+stamps-differ (request ∷ requests) [] stamp are = tt
+stamps-differ (request ∷ requests) (reply ∷ replies) stamp are = by (stamp_of reply) are.0
+    (stamps-within requests replies (stamp + 1) are.1)
+    (stamps-differ requests replies (stamp + 1) are.1)
   where
     rest : List ℕ
-    rest = stamps (pairs_of requests (answers start (behind start before stamp request) (stamp + 1)
-        requests))
+    rest = stamps (pairs_of requests replies)
 
     by : (carried : Option ℕ) → HasStamp stamp carried → AllByRecursion (λ s. (stamp + 1 ≤ s)
         × (s < stamp + 1 + length requests)) rest → Pairwise (λ s other. s ≢ other) rest
@@ -163,20 +146,21 @@ stamps-differ (request ∷ requests) start before stamp =
       differ,
     )
 
--- with the answers to one more batch behind it, a run agrees with one plain map
-pub agrees-with-more : (told : Bool) (layout : Layout) (before : List Write) (floor : ℕ)
-    (pairs : List Pair) (base : ℕ) (start : Start) (requests : List Request)
-    → AgreesWithMap told layout before floor pairs → start.layout ≡ layout
-    → BeginsAt told (before ++ writes pairs) base start → floor < base → AllBelow base before
+-- with replies behind it that are the map's and have the stamps of a new block, a run agrees with
+-- one plain map
+pub agrees-with-replies : (told : Bool) (layout : Layout) (before : List Write) (floor : ℕ)
+    (pairs : List Pair) (base : ℕ) (requests : List Request) (replies : List Reply)
+    → AgreesWithMap told layout before floor pairs → floor < base → AllBelow base before
     → AllByRecursion (IsBelowStamp base) pairs → base + length requests ≤ 2 ^ 62
-    → AllByRecursion (IsTask layout) requests
-    → AgreesWithMap told layout before floor (pairs ++ pairs_of requests (answers start [] base
-    requests))
-agrees-with-more told layout before floor pairs base start requests agrees same begins above below
-    earlier_below ends good =
-    let new : List Pair = pairs_of requests (answers start [] base requests) in
+    → AreStamped base replies → AllFrom base (writes (pairs_of requests replies))
+    → AllByRecursion (λ pair. IsAnswer told layout ((before ++ writes pairs)
+    ++ writes (pairs_of requests replies)) pair.request pair.reply) (pairs_of requests replies)
+    → AgreesWithMap told layout before floor (pairs ++ pairs_of requests replies)
+agrees-with-replies told layout before floor pairs base requests replies agrees above below
+    earlier_below ends are from good =
+    let new : List Pair = pairs_of requests replies in
     let within : AllByRecursion (λ s. (base ≤ s) × (s < base + length requests)) (stamps new) =
-    stamps-within requests start [] base in
+    stamps-within requests replies base are in
     let split : stamps (pairs ++ new) ≡ stamps pairs ++ stamps new =
     filter_map-append (λ pair. stamp_of pair.reply) pairs new in
     let old : AllByRecursion (λ s. s < base) (stamps pairs) = stamps-below pairs base earlier_below
@@ -186,31 +170,48 @@ agrees-with-more told layout before floor pairs base start requests agrees same 
     ∙ sym (append_assoc before (writes pairs) (writes new)) in
     record {
       distinct = subst (Pairwise (λ stamp other. stamp ≢ other)) (sym split)
-          (Pairwise-both (λ stamp other. stamp ≢ other) (stamps pairs) (stamps new) agrees.distinct
-          (stamps-differ requests start [] base)
+          (Pairwise-append (λ stamp other. stamp ≢ other) (stamps pairs) (stamps new)
+          agrees.distinct (stamps-differ requests replies base are)
           (All-map (λ s. s < base) (λ s. AllByRecursion (λ o. s ≢ o) (stamps new)) (stamps pairs)
           (λ s lt. All-map (λ o. (base ≤ o) × (o < base + length requests)) (λ o. s ≢ o)
           (stamps new) (λ o h. λ e. omega (arith, lt, h.0, e)) within) old));
       above = subst (AllByRecursion (λ stamp. (floor < stamp) × (stamp < 2 ^ 62))) (sym split)
-          (All-both (λ stamp. (floor < stamp) × (stamp < 2 ^ 62)) (stamps pairs) (stamps new)
+          (All-append (λ stamp. (floor < stamp) × (stamp < 2 ^ 62)) (stamps pairs) (stamps new)
           agrees.above (All-map (λ s. (base ≤ s) × (s < base + length requests))
           (λ stamp. (floor < stamp) × (stamp < 2 ^ 62)) (stamps new)
           (λ s h. (omega (arith, h.0), omega (arith, h.1))) within));
       fresh = subst (AllByRecursion (λ stamp. AllByRecursion (λ write. write.stamp < stamp) before))
-          (sym split) (All-both (λ stamp. AllByRecursion (λ write. write.stamp < stamp) before)
+          (sym split) (All-append (λ stamp. AllByRecursion (λ write. write.stamp < stamp) before)
           (stamps pairs) (stamps new) agrees.fresh
           (All-map (λ s. (base ≤ s) × (s < base + length requests))
           (λ stamp. AllByRecursion (λ write. write.stamp < stamp) before) (stamps new)
           (λ s h. AllBelow-weaken base s before h.0 below) within));
       replies = subst (λ all. AllByRecursion (λ pair. IsAnswer told layout all pair.request
           pair.reply) (pairs ++ new)) (sym more)
-          (All-both (λ pair. IsAnswer told layout ((before ++ writes pairs) ++ writes new)
+          (All-append (λ pair. IsAnswer told layout ((before ++ writes pairs) ++ writes new)
           pair.request pair.reply) pairs new
-          (earlier pairs told layout (before ++ writes pairs) (writes new) base
-          (RiseBetween-from base (base + length requests) (writes new)
-          (RiseBetween-acknowledged_in requests start [] base)) earlier_below agrees.replies)
-          (answers-agree requests told layout start [] (before ++ writes pairs)
-          ((before ++ writes pairs) ++ writes new) base (omega (arith, above))
-          (AllBelow-append base before (writes pairs) below (writes-below pairs base earlier_below))
-          begins.value same refl good));
+          (earlier pairs told layout (before ++ writes pairs) (writes new) base from earlier_below
+          agrees.replies) good);
     }
+
+-- with the answers to one more batch behind it, a run agrees with one plain map
+pub agrees-with-more : (told : Bool) (layout : Layout) (before : List Write) (floor : ℕ)
+    (pairs : List Pair) (base : ℕ) (start : Start) (requests : List Request)
+    → AgreesWithMap told layout before floor pairs → start.layout ≡ layout
+    → FollowsHistory told (before ++ writes pairs) (base - 1) start → floor < base
+    → AllBelow base before → AllByRecursion (IsBelowStamp base) pairs
+    → base + length requests ≤ 2 ^ 62 → AllByRecursion (IsTask layout) requests
+    → AgreesWithMap told layout before floor (pairs ++ pairs_of requests (answers start [] base
+    requests))
+agrees-with-more told layout before floor pairs base start requests agrees same begins above below
+    earlier_below ends good =
+    let history : List Write = before ++ writes pairs in
+    agrees-with-replies told layout before floor pairs base requests
+    (answers start [] base requests) agrees above below earlier_below ends
+    (AreStamped-answers requests start [] base)
+    (RiseBetween-from base (base + length requests) (acknowledged_in start [] base requests)
+    (RiseBetween-acknowledged_in requests start [] base))
+    (answers-agree requests told layout start [] history
+    (history ++ acknowledged_in start [] base requests) base (omega (arith, above))
+    (AllBelow-append base before (writes pairs) below (writes-below pairs base earlier_below))
+    begins.value same refl good)

@@ -1,6 +1,6 @@
 -- Replies that are those of one plain map, whose history is read at each reply's stamp.
 use Rattle.std.specs.Prelude.{◌≡◌, ◌≢◌, ℕ, ◌-◌, ◌^◌, ◌<◌, List, ◌++◌, length, Option, None, Some}
-use Rattle.std.specs.Prelude.{[], Bool, IsTrue, MatchOption, is_some, if◌then◌else◌, ⊤}
+use Rattle.std.specs.Prelude.{[], ◌∷◌, ◌⊎◌, Bool, IsTrue, MatchOption, is_some, if◌then◌else◌, ⊤}
 use Rattle.std.specs.List.{AllByRecursion}
 use Rattle.kv_base.specs.declared.request.Request.{Request}
 use Rattle.kv_base.specs.declared.request.Request.TheVariants.{Put, Get, Delete, Flush}
@@ -12,7 +12,7 @@ use Rattle.kv_base.specs.declared.reply.Reply.TheVariants.{Malformed}
 use Rattle.kv_model.specs.Pairwise.{Pairwise}
 use Rattle.kv_model.specs.History.{Write, value_at}
 use Rattle.kv_model.specs.Layout.{Layout, is_key_length, class_of}
-use Rattle.kv_model.specs.Pairs.{Pair, writes, stamps}
+use Rattle.kv_model.specs.Pairs.{Pair, writes, stamps, stamp_of}
 
 -- the refusal that the sizes of the request demand
 abbrev pub refusal_of : Layout → Request → Option Reply
@@ -99,3 +99,15 @@ pub record AgreesWithMap (told : Bool) (layout : Layout) (before : List Write) (
       (stamps pairs)
   pub replies : AllByRecursion (λ pair. IsAnswer told layout (before ++ writes pairs) pair.request
       pair.reply) pairs
+
+-- the reply carries no stamp, and answers the request whatever the history is
+pub record IsRefusal (told : Bool) (layout : Layout) (pair : Pair) : Type 0 where
+  pub stampless : stamp_of pair.reply ≡ None
+  pub answer : (history : List Write) → IsAnswer told layout history pair.request pair.reply
+
+-- the pairs are the kept ones, in their order, and refusals anywhere among them
+abbrev pub WithRefusals : Bool → Layout → List Pair → List Pair → Type 0
+WithRefusals told layout kept [] = kept ≡ []
+WithRefusals told layout kept (pair ∷ pairs) = (IsRefusal told layout pair
+    × WithRefusals told layout kept pairs) ⊎ ((rest : List Pair) × (kept ≡ pair ∷ rest)
+    × WithRefusals told layout rest pairs)

@@ -9,7 +9,7 @@ use Rattle.kv_base.specs.declared.request.Request.{Request}
 use Rattle.kv_base.specs.declared.request.Request.TheVariants.{Put, Get, Delete, Flush}
 use Rattle.kv_base.specs.declared.reply.Reply.{Reply}
 use Rattle.kv_base.specs.declared.reply.Reply.TheVariants.{Stored, Found, Missing, Removed, Absent}
-use Rattle.kv_base.specs.declared.reply.Reply.TheVariants.{Full, BadKey}
+use Rattle.kv_base.specs.declared.reply.Reply.TheVariants.{Full, BadKey, DiskFault, Unsure}
 use Rattle.kv_model.specs.History.{Write}
 use Rattle.kv_model.specs.Layout.{Layout, is_small, class_of}
 use Rattle.kv_model.specs.Slots.{is_class}
@@ -136,3 +136,19 @@ changes_something start write = is_some write.value || is_some (start.value writ
 -- after
 abbrev pub net : Start → List Write → List Write
 net start writes = filter (changes_something start) (last_writes writes)
+
+-- the reply in place of this one where a write failed: a write that was accepted may be on disk or
+-- not, and nothing is read any more
+abbrev pub failed_reply : Request → ℕ → Reply → Reply
+failed_reply (Put key value) stamp (Full class) = Full class
+failed_reply (Put key value) stamp reply = Unsure stamp
+failed_reply (Get key) stamp reply = DiskFault
+failed_reply (Delete key) stamp reply = Unsure stamp
+failed_reply Flush stamp reply = reply
+
+-- the replies in place of these where a write failed, the first request with this stamp
+abbrev pub failed_replies : ℕ → List Request → List Reply → List Reply
+failed_replies stamp [] replies = []
+failed_replies stamp (request ∷ requests) [] = []
+failed_replies stamp (request ∷ requests) (reply ∷ replies) = failed_reply request stamp reply
+    ∷ failed_replies (stamp + 1) requests replies

@@ -18,6 +18,7 @@ pub mod BatchLaws
 pub mod FreeSlots
 pub mod Reading
 pub mod Recovery
+pub mod RunLaws
 pub mod Lookup
 pub mod Oracle
 pub mod Examples

@@ -1,11 +1,12 @@
 -- What recovery owes: an image that opens, and gives each key the value after a prefix of its
 -- writes.
-use Rattle.std.specs.Prelude.{◌≡◌, ℕ, ◌*◌, ◌/◌, ◌≤◌, ◌⊎◌, List, Option, None, Some, IsTrue}
-use Rattle.std.specs.Prelude.{if◌then◌else◌}
+use Rattle.std.specs.Prelude.{◌≡◌, ◌≢◌, ℕ, ◌*◌, ◌/◌, ◌≤◌, ◌⊎◌, List, Option, None, Some, IsTrue}
+use Rattle.std.specs.Prelude.{Contains, if◌then◌else◌}
 use Rattle.std.specs.List.{AllByRecursion}
 use Rattle.kv_base.specs.Image.{Image, zero_page}
 pub use Rattle.kv_base.specs.Limits.{most_slots}
 use Rattle.kv_base.specs.Partition.{owner_of}
+use Rattle.kv_model.specs.Pairwise.{Pairwise}
 use Rattle.kv_model.specs.History.{Write, value_at}
 use Rattle.kv_model.specs.Layout.{Layout, is_small, slots_in_page, pages_in_slot}
 use Rattle.kv_model.specs.Head.{IsWorker, head_page}
@@ -48,3 +49,20 @@ pub record RecoversPrefix (layout : Layout) (writes acknowledged : List Write) (
   pub prefix : (key : List ℕ) → owner_of key workers ≡ worker
       → (stamp : ℕ) × HoldsAll acknowledged key stamp
       × GivesValue (slot_at layout image) worker workers key (value_at writes stamp key)
+
+-- of each key of which an item is found one is kept
+abbrev pub KeepsEach : Reading → ℕ → ℕ → Type 0
+KeepsEach reading worker workers = (key : List ℕ) (copy : Copy)
+    → IsFound reading worker workers key copy
+    → (kept : Copy) × IsKept reading worker workers key kept
+
+-- the writes are the items that the image keeps, one for each key
+pub record AreKept (layout : Layout) (image : Image) (worker workers : ℕ)
+    (kept : List Write) : Type 0 where
+  pub distinct : Pairwise (λ write other. write.key ≢ other.key) kept
+  pub each : (write : Write) → Contains kept write → (copy : Copy)
+      × IsKept (slot_at layout image) worker workers write.key copy
+      × (write.stamp ≡ copy.stamp) × (write.value ≡ Some copy.value)
+  pub all : (key : List ℕ) (copy : Copy)
+      → IsKept (slot_at layout image) worker workers key copy
+      → Contains kept (record { stamp = copy.stamp; key = key; value = Some copy.value })

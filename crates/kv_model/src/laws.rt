@@ -5,6 +5,10 @@ ghost use Rattle.kv_model.specs.Items.{ItemsAreOne, OneAnswer};
 ghost use Rattle.kv_model.specs.BatchLaws.{StampsFollowRequests, NetHasOneWritePerKey};
 ghost use Rattle.kv_model.specs.BatchLaws.{NetReadsAsAll, AcknowledgedReadAsAll, AnswersAgree};
 ghost use Rattle.kv_model.specs.BatchLaws.{StoreFollowsHistory, OldOrNewIsPrefix, ToldAnswersAgree};
+ghost use Rattle.kv_model.specs.BatchLaws.{FailedAnswersAgree, FailedAreUnsure};
+ghost use Rattle.kv_model.specs.BatchLaws.{OldOrNewOfAccepted};
+ghost use Rattle.kv_model.specs.RunLaws.{RefusalsAgree, RefusalsAreSilent, KeptAreGiven};
+ghost use Rattle.kv_model.specs.RunLaws.{PrefixesStay};
 
 /// The classes of the layouts rise.
 pub fn layouts_rise()
@@ -80,4 +84,42 @@ pub fn store_follows_history()
 /// A key with its old or its new value has what it has behind a prefix of the net changes.
 pub fn old_or_new_is_a_prefix()
     ensures { OldOrNewIsPrefix }
+{}
+
+/// A run that agrees with one plain map agrees with the replies to a batch of which a write failed.
+pub fn failed_answers_agree_with_one_map()
+    ensures { FailedAnswersAgree }
+{}
+
+/// Where a write failed, all accepted writes of the batch are unsure and none is acknowledged; else
+/// none is unsure.
+pub fn failed_writes_are_unsure()
+    ensures { FailedAreUnsure }
+{}
+
+/// A key with its old or its new value has what it has behind a prefix of the accepted writes, and
+/// of the acknowledged ones.
+pub fn old_or_new_reads_as_all()
+    ensures { OldOrNewOfAccepted }
+{}
+
+/// A run that agrees with one plain map does so with refusals among its last replies.
+pub fn refusals_agree_with_one_map()
+    ensures { RefusalsAgree }
+{}
+
+/// Refusals carry no stamp, and leave no write acknowledged or unsure.
+pub fn refusals_are_silent()
+    ensures { RefusalsAreSilent }
+{}
+
+/// Behind the writes of all items that an image keeps each key has what the image gives for it.
+pub fn kept_items_are_given()
+    ensures { KeptAreGiven }
+{}
+
+/// An image that recovers a prefix of writes does so with more writes above all their stamps, and
+/// with fewer of them acknowledged.
+pub fn prefixes_stay()
+    ensures { PrefixesStay }
 {}

@@ -18,8 +18,10 @@ mod write;
 pub use item::{Item, ItemList};
 pub use laws::{
     acknowledged_writes_read_as_all, answers_agree_with_one_map, classes_are_least,
-    groups_hold_requests, items_are_one, layouts_rise, net_has_one_write_per_key, net_reads_as_all,
-    old_or_new_is_a_prefix, one_answer, one_grouping, stamps_follow_requests, stamps_rise,
+    failed_answers_agree_with_one_map, failed_writes_are_unsure, groups_hold_requests,
+    items_are_one, kept_items_are_given, layouts_rise, net_has_one_write_per_key, net_reads_as_all,
+    old_or_new_is_a_prefix, old_or_new_reads_as_all, one_answer, one_grouping, prefixes_stay,
+    refusals_agree_with_one_map, refusals_are_silent, stamps_follow_requests, stamps_rise,
     store_follows_history, told_answers_agree_with_one_map,
 };
 pub use oracle::Oracle;

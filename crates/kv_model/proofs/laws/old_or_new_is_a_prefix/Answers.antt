@@ -1,25 +1,18 @@
 -- before the batch, or behind it
-use Rattle.std.proofs.Common.{ℕ, List, [], ◌∷◌, ◌+◌, ◌-◌, ◌≤◌, length, le_refl, arith}
+use Rattle.std.proofs.Common.{[], ◌+◌, ◌-◌, length, le_refl, arith}
 use Rattle.std.proofs.Common.{sym, ◌∙◌, ap}
 use Rattle.std.proofs.Common.{subst, ◌++◌, ⊎_elim}
-use Rattle.std.specs.List.{AllByRecursion}
-use Rattle.kv_model.specs.History.{Write, value_at}
+use Rattle.kv_model.specs.History.{value_at}
 use Rattle.kv_model.specs.Batch.{accepted_writes, last_write, last_writes, value_or, net}
 use Rattle.kv_model.specs.Batch.{changes_something}
 use Rattle.kv_model.specs.BatchLaws.{RiseBetween}
 use Rattle.kv_model.specs.Items.{SameValue}
-use Rattle.kv_model.proofs.ReadingLemmas.{value_at-rises, AllBelow, RiseBetween-from}
+use Rattle.kv_model.proofs.ReadingLemmas.{value_at-rises, up_to, RiseBetween-from}
 use Rattle.kv_model.proofs.AgreementLemmas.{value-same, SameValue-or, value-append-above}
 use Rattle.kv_model.proofs.AgreementLemmas.{AllFrom-weaken}
 use Rattle.kv_model.proofs.NetLemmas.{RiseBetween-accepted_writes, RiseBetween-filter}
 use Rattle.kv_model.proofs.NetLemmas.{RiseBetween-last_writes}
 use Rattle.kv_model.proofs.laws.old_or_new_is_a_prefix.Goals as goal
-
-up_to : (bound stamp : ℕ) (history : List Write) → bound ≤ stamp + 1 → AllBelow bound history
-    → AllByRecursion (λ write. write.stamp ≤ stamp) history
-up_to bound stamp [] le below = tt
-up_to bound stamp (write ∷ history) le below =
-    (omega (arith, below.0), up_to bound stamp history le below.1)
 
 pub returns : goal.returns
 returns c = λ told history base start requests key value begins one below either.

@@ -12,6 +12,7 @@ use Rattle.kv_model.specs.Batch.{accepted_writes, last_write, value_or, net}
 use Rattle.kv_model.specs.Items.{SameValue, class_with, class_or}
 use Rattle.kv_model.proofs.ReadingLemmas.{value_at-rises}
 use Rattle.kv_model.proofs.AgreementLemmas.{same-some, value-same, SameValue-or}
+use Rattle.kv_model.proofs.AgreementLemmas.{SameValue-trans}
 use Rattle.kv_model.proofs.NetLemmas.{net-reads}
 use Rattle.kv_model.proofs.AnswersLemmas.{acknowledged-reads, acknowledged_in}
 use Rattle.kv_model.proofs.AnswersLemmas.{RiseBetween-acknowledged_in}
@@ -67,15 +68,17 @@ returns c = λ told history base start after requests stamp begins below ends is
     ∙ acknowledged-reads requests start [] base key (value_at history stamp key) (ap is_some
     (still key) ∙ some key) ∙ ap (value_or (last_write all key)) (still key) in
     record {
-      value = λ key. subst (λ o. SameValue told o (value_at total stamp key))
-          (sym (is_after.value key ∙ net-reads all start key (start.value key) refl))
+      value = λ key. SameValue-trans told (after.value key) (value_or (last_write all key)
+          (start.value key)) (value_at total stamp key)
+          (subst (SameValue told (after.value key)) (net-reads all start key (start.value key) refl)
+          (is_after.value key))
           (subst (SameValue told (value_or (last_write all key) (start.value key))) (sym (right
           key))
           (SameValue-or told (last_write all key) (start.value key) (value_at history (base - 1)
           key)
           (begins.value key)));
-      class = λ key. is_after.class key
-          ∙ ap (class_or start.layout (last_write changes key)) (begins.class key)
+      class = λ yes key. is_after.class key
+          ∙ ap (class_or start.layout (last_write changes key)) (begins.class yes key)
           ∙ class-is start.layout (last_write changes key) key (value_at history (base - 1) key)
           (λ write is. last-key changes key write is)
           ∙ ap (class_with start.layout key) (net-reads all start key (value_at history (base - 1)

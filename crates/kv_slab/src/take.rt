@@ -1,6 +1,6 @@
 ghost use Rattle.std.specs.Prelude.{◌≡◌, ℕ, ◌+◌, ◌-◌, ◌^◌, ◌<◌, ◌≤◌, ◌↔◌, ◌⊎◌, ◌∷◌, Option, List};
 ghost use Rattle.std.specs.Prelude.{None, Some};
-ghost use Rattle.std.specs.Prelude.{IsTrue, IfOk, IfErr, IfSome, IsSome, OnOk, MatchOption, length};
+ghost use Rattle.std.specs.Prelude.{IsTrue, IfOk, IfSome, IsSome, OnOk, MatchOption};
 ghost use Rattle.std.specs.Prelude.{take, drop};
 ghost use Rattle.std.specs.List.{slice_get};
 ghost use Rattle.kv_model.specs.Layout.{all_classes, slot_size};

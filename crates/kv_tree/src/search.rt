@@ -1,5 +1,5 @@
 ghost use Rattle.std.specs.Prelude.{length, IfOk, IfErr};
-ghost use Rattle.std.specs.Prelude.{◌≡◌, ◌≤◌, List, ℕ, take};
+ghost use Rattle.std.specs.Prelude.{◌≡◌, ◌<◌, ◌≤◌, List, ℕ, take};
 ghost use Rattle.kv_tree.specs.Subtree.{Past};
 ghost use Rattle.std.specs.List.Sorted.{IsSearchInRange};
 ghost use Rattle.std.specs.Ordering.{nat_cmp};
@@ -22,10 +22,28 @@ pub fn place_of(items: &[Item], number: u64, key: &[u8]) -> Result<usize, usize>
     if at == items.len() {
         return Err(at);
     }
+    if items[at].is_above(number) {
+        return Err(at);
+    }
+    place_from(items, at, number, key)
+}
+
+// The same where all items before a place come before the key. It stands apart, since most searches
+// end before it.
+#[inline(never)]
+fn place_from(items: &[Item], at: usize, number: u64, key: &[u8]) -> Result<usize, usize>
+    requires rising { HasRisingKeys (slice_cmp nat_cmp) items.now }
+    requires number { HasHead key.now number }
+    requires at { at < length items.now }
+    requires past { Past key.now (take at items.now) }
+    ensures bound { IsSearchInRange result (length items.now) }
+    ensures found { IfOk result (IsAt (slice_cmp nat_cmp) key.now items.now) }
+    ensures absent { IfErr result (IsGap (slice_cmp nat_cmp) key.now items.now) }
+{
     match items[at].cmp_key(number, key) {
         Ordering::Equal => Ok(at),
         Ordering::Greater => Err(at),
-        Ordering::Less => search(items, number, key),
+        Ordering::Less => place_by_halves(items, number, key),
     }
 }
 
@@ -50,8 +68,9 @@ fn count_below(items: &[Item], number: u64) -> usize
     at
 }
 
-// The same by halves, for items whose heads are alike.
-fn search(items: &[Item], number: u64, key: &[u8]) -> Result<usize, usize>
+/// The same by halves: for items whose heads are alike, and for keys that come in order, where each
+/// branch goes mostly as it went for the key before.
+pub fn place_by_halves(items: &[Item], number: u64, key: &[u8]) -> Result<usize, usize>
     requires rising { HasRisingKeys (slice_cmp nat_cmp) items.now }
     requires number { HasHead key.now number }
     ensures bound { IsSearchInRange result (length items.now) }

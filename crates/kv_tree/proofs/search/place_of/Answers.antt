@@ -1,5 +1,8 @@
-use Rattle.std.proofs.Common.{Equal, Greater, arith}
-use Rattle.kv_tree.proofs.SearchLemmas.{at_place, gap_place, turned}
+use Rattle.std.proofs.Common.{sym, ap, ◌∙◌, arith}
+use Rattle.std.specs.Ordering.{nat_cmp}
+use Rattle.std.specs.Cmp.Lexicographic.{slice_cmp}
+use Rattle.kv_tree.specs.Subtree.{Pair}
+use Rattle.kv_tree.proofs.SearchLemmas.{gap_place}
 use Rattle.kv_tree.proofs.search.place_of.Goals as goal
 
 -- all items are before the key
@@ -10,18 +13,10 @@ returns-then-at-items-clause-absent c =
     (c.count_below-at.ensures.past c.args.key.now c.requires.number) (omega arith)
     (λ lt. absurd (omega arith))
 
--- it stands where the items before it end
-pub returns-in-Equal-clause-found : goal.returns-in-Equal-clause-found
-returns-in-Equal-clause-found c =
-    at_place c.args.key.now c.args.items.now c.count_below-at.result c.index-items-at.result
-    (c.count_below-at.ensures.past c.args.key.now c.requires.number) (omega arith)
-    (turned c.args.key.now _ _ _ Equal c.index-items-at.is (c.cmp_key.ensures c.requires.number)
-    c.in-Equal.is)
-
--- or it would stand there
-pub returns-in-Greater-clause-absent : goal.returns-in-Greater-clause-absent
-returns-in-Greater-clause-absent c =
+-- the items before it end at one that is above it
+pub returns-then-is_above-clause-absent : goal.returns-then-is_above-clause-absent
+returns-then-is_above-clause-absent c =
     gap_place c.args.key.now c.args.items.now c.count_below-at.result c.index-items-at.result
     (c.count_below-at.ensures.past c.args.key.now c.requires.number) (omega arith)
-    (λ lt. turned c.args.key.now _ _ _ Greater c.index-items-at.is
-    (c.cmp_key.ensures c.requires.number) c.in-Greater.is)
+    (λ lt. ap (λ (p : Pair). slice_cmp nat_cmp c.args.key.now p.0) (sym c.index-items-at.is)
+    ∙ c.is_above.ensures c.if-is_above.true c.args.key.now c.requires.number)

@@ -149,7 +149,9 @@ pub fn refill(items: &mut Vec<Item>, kids: &mut Vec<Node>, at: usize, pool: &mut
     }
 }
 
-// Evens out the kids at a place and behind it, of which one wants an item.
+// Evens out the kids at a place and behind it, of which one wants an item. It stands apart, since
+// few removals come to it.
+#[inline(never)]
 fn even_at(items: &mut Vec<Item>, kids: &mut Vec<Node>, at: usize, first: usize, pool: &mut Pool)
     requires level { AreKidsBut at (level_of kids.old.items) kids.old.items }
     requires lengths { vec_len kids.old ≡ vec_len items.old + 1 }

@@ -13,7 +13,7 @@ use crate::even::refill;
 use crate::item::Item;
 use crate::moves::{insert_within, take_last};
 use crate::pool::Pool;
-use crate::search::{place_by_halves, place_of};
+use crate::search::{place_in_order, place_of};
 use crate::split::split_over;
 use kv_base::NoMemory;
 use kv_index::Entry;
@@ -220,7 +220,7 @@ impl Node {
         ensures { MatchOption result (next_from key.now self.now.pairs ≡ None)
             (λ next. next_from key.now self.now.pairs ≡ Some (next.0.now, next.1)) }
     {
-        match place_by_halves(&self.items, number, key) {
+        match place_in_order(&self.items, self.kids.is_empty(), number, key) {
             Ok(at) => {
                 let item = &self.items[at];
                 Some((item.key(), item.entry()))

@@ -28,8 +28,8 @@ pub fn place_of(items: &[Item], number: u64, key: &[u8]) -> Result<usize, usize>
     place_from(items, at, number, key)
 }
 
-// The same where all items before a place come before the key. It stands apart, since most searches
-// end before it.
+// The same where all items before a place come before the key: it is mostly there, or the first
+// behind it. This stands apart, since most searches end before it.
 #[inline(never)]
 fn place_from(items: &[Item], at: usize, number: u64, key: &[u8]) -> Result<usize, usize>
     requires rising { HasRisingKeys (slice_cmp nat_cmp) items.now }
@@ -43,7 +43,37 @@ fn place_from(items: &[Item], at: usize, number: u64, key: &[u8]) -> Result<usiz
     match items[at].cmp_key(number, key) {
         Ordering::Equal => Ok(at),
         Ordering::Greater => Err(at),
-        Ordering::Less => place_by_halves(items, number, key),
+        Ordering::Less => {
+            let next = at + 1;
+            if next == items.len() {
+                return Err(next);
+            }
+            if items[next].is_above(number) {
+                return Err(next);
+            }
+            place_by_halves(items, number, key)
+        }
+    }
+}
+
+/// The same for keys that come in order. Above the leaves each branch goes mostly as it went for
+/// the key before, so a search by halves guesses right; a leaf is read whole, before it is wanted.
+pub fn place_in_order(
+    items: &[Item],
+    is_leaf: bool,
+    number: u64,
+    key: &[u8],
+) -> Result<usize, usize>
+    requires rising { HasRisingKeys (slice_cmp nat_cmp) items.now }
+    requires number { HasHead key.now number }
+    ensures bound { IsSearchInRange result (length items.now) }
+    ensures found { IfOk result (IsAt (slice_cmp nat_cmp) key.now items.now) }
+    ensures absent { IfErr result (IsGap (slice_cmp nat_cmp) key.now items.now) }
+{
+    if is_leaf {
+        place_of(items, number, key)
+    } else {
+        place_by_halves(items, number, key)
     }
 }
 
@@ -68,9 +98,8 @@ fn count_below(items: &[Item], number: u64) -> usize
     at
 }
 
-/// The same by halves: for items whose heads are alike, and for keys that come in order, where each
-/// branch goes mostly as it went for the key before.
-pub fn place_by_halves(items: &[Item], number: u64, key: &[u8]) -> Result<usize, usize>
+// The same by halves.
+fn place_by_halves(items: &[Item], number: u64, key: &[u8]) -> Result<usize, usize>
     requires rising { HasRisingKeys (slice_cmp nat_cmp) items.now }
     requires number { HasHead key.now number }
     ensures bound { IsSearchInRange result (length items.now) }

@@ -19,6 +19,36 @@ pub fn place_of(items: &[Item], number: u64, key: &[u8]) -> Result<usize, usize>
     ensures absent { IfErr result (IsGap (slice_cmp nat_cmp) key.now items.now) }
 {
     let at = count_below(items, number);
+    place_behind(items, at, number, key)
+}
+
+/// The same for keys that come in order.
+pub fn place_in_order(
+    items: &[Item],
+    is_leaf: bool,
+    number: u64,
+    key: &[u8],
+) -> Result<usize, usize>
+    requires rising { HasRisingKeys (slice_cmp nat_cmp) items.now }
+    requires number { HasHead key.now number }
+    ensures bound { IsSearchInRange result (length items.now) }
+    ensures found { IfOk result (IsAt (slice_cmp nat_cmp) key.now items.now) }
+    ensures absent { IfErr result (IsGap (slice_cmp nat_cmp) key.now items.now) }
+{
+    let at = count_in_order(items, is_leaf, number);
+    place_behind(items, at, number, key)
+}
+
+// The same where all items before a place come before the key.
+fn place_behind(items: &[Item], at: usize, number: u64, key: &[u8]) -> Result<usize, usize>
+    requires rising { HasRisingKeys (slice_cmp nat_cmp) items.now }
+    requires number { HasHead key.now number }
+    requires at { at ≤ length items.now }
+    requires past { Past key.now (take at items.now) }
+    ensures bound { IsSearchInRange result (length items.now) }
+    ensures found { IfOk result (IsAt (slice_cmp nat_cmp) key.now items.now) }
+    ensures absent { IfErr result (IsGap (slice_cmp nat_cmp) key.now items.now) }
+{
     if at == items.len() {
         return Err(at);
     }
@@ -28,8 +58,8 @@ pub fn place_of(items: &[Item], number: u64, key: &[u8]) -> Result<usize, usize>
     place_from(items, at, number, key)
 }
 
-// The same where all items before a place come before the key: it is mostly there, or the first
-// behind it. This stands apart, since most searches end before it.
+// The same where the item at the place has the key's head or comes before: the key is mostly there,
+// or the first behind it. This stands apart, since most searches end before it.
 #[inline(never)]
 fn place_from(items: &[Item], at: usize, number: u64, key: &[u8]) -> Result<usize, usize>
     requires rising { HasRisingKeys (slice_cmp nat_cmp) items.now }
@@ -56,27 +86,6 @@ fn place_from(items: &[Item], at: usize, number: u64, key: &[u8]) -> Result<usiz
     }
 }
 
-/// The same for keys that come in order. Above the leaves each branch goes mostly as it went for
-/// the key before, so a search by halves guesses right; a leaf is read whole, before it is wanted.
-pub fn place_in_order(
-    items: &[Item],
-    is_leaf: bool,
-    number: u64,
-    key: &[u8],
-) -> Result<usize, usize>
-    requires rising { HasRisingKeys (slice_cmp nat_cmp) items.now }
-    requires number { HasHead key.now number }
-    ensures bound { IsSearchInRange result (length items.now) }
-    ensures found { IfOk result (IsAt (slice_cmp nat_cmp) key.now items.now) }
-    ensures absent { IfErr result (IsGap (slice_cmp nat_cmp) key.now items.now) }
-{
-    if is_leaf {
-        place_of(items, number, key)
-    } else {
-        place_by_halves(items, number, key)
-    }
-}
-
 // How many items come before each key with this head, by their heads alone. The ends come first,
 // for keys in order. Then all heads are looked at, which takes no branch that may be guessed wrong.
 fn count_below(items: &[Item], number: u64) -> usize
@@ -98,7 +107,40 @@ fn count_below(items: &[Item], number: u64) -> usize
     at
 }
 
+// The same for keys that come in order. Above the leaves each branch goes mostly as it went for the
+// key before, so a count by halves guesses right; a leaf is read whole, before it is wanted.
+fn count_in_order(items: &[Item], is_leaf: bool, number: u64) -> usize
+    requires { HasRisingKeys (slice_cmp nat_cmp) items.now }
+    ensures bound { result ≤ length items.now }
+    ensures past { (key : List ℕ) → HasHead key number → Past key (take result items.now) }
+{
+    if is_leaf {
+        count_below(items, number)
+    } else {
+        count_by_halves(items, number)
+    }
+}
+
 // The same by halves.
+fn count_by_halves(items: &[Item], number: u64) -> usize
+    requires { HasRisingKeys (slice_cmp nat_cmp) items.now }
+    ensures bound { result ≤ length items.now }
+    ensures past { (key : List ℕ) → HasHead key number → Past key (take result items.now) }
+{
+    let mut low: usize = 0;
+    let mut high = items.len();
+    while low < high {
+        let middle = low + (high - low) / 2;
+        if items[middle].below(number) == 1 {
+            low = middle + 1;
+        } else {
+            high = middle;
+        }
+    }
+    low
+}
+
+// Where a key stands among items whose heads are alike, by halves.
 fn place_by_halves(items: &[Item], number: u64, key: &[u8]) -> Result<usize, usize>
     requires rising { HasRisingKeys (slice_cmp nat_cmp) items.now }
     requires number { HasHead key.now number }

@@ -6,7 +6,7 @@ use Rattle.std.proofs.lemmas.List.{append_assoc}
 use Rattle.kv_tree.specs.Subtree.{Pair, Subtree, weave, subtree, blank, AreBlank}
 use Rattle.kv_tree.specs.Subtree.{depth_over, level_of, sum_in, nodes_in, inner_in, inner_over}
 use Rattle.kv_tree.specs.Subtree.{IsKid, AreKids, IsShape}
-use Rattle.kv_tree.specs.Subtree.{AreKidRooms}
+use Rattle.kv_tree.specs.Subtree.{AreKidRooms, IsFilled}
 use Rattle.std.specs.Global.{Vec}
 use Rattle.std.specs.Prelude.{vec_capacity}
 use Rattle.kv_tree.proofs.WeaveLemmas.{shape_length}
@@ -86,6 +86,24 @@ node_wide : (level : ℕ) (kids : List Subtree) (own : List Pair) → AreKids le
     → 16 * inner_over kids + 1 ≤ nodes_in kids + 1
 node_wide level [] own h n low = omega arith
 node_wide level (kid ∷ kids) own h n low = omega (arith, inner_wide level (kid ∷ kids) h)
+
+filled_kids : (kids : List Subtree) (own : List Pair) → AreKids (level_of kids) kids
+    → IsShape kids own → IsFilled (subtree kids own)
+filled_kids [] own level shape = record {
+  full = omega arith;
+  wide = λ some. absurd (omega arith);
+  leaf = λ none. (refl, refl);
+}
+filled_kids (kid ∷ kids) own level shape = record {
+  full = omega (arith, weave_full kid.depth (kid ∷ kids) own level shape);
+  wide = λ some. omega (arith, inner_wide kid.depth (kid ∷ kids) level, shape);
+  leaf = λ none. absurd (omega arith);
+}
+
+-- each node is filled
+pub filled : (s : Subtree) (kids : List Subtree) (own : List Pair) → subtree kids own ≡ s
+    → AreKids (level_of kids) kids → IsShape kids own → IsFilled s
+filled s kids own view level shape = subst IsFilled view (filled_kids kids own level shape)
 
 -- two nodes of one depth are both leaves or both not
 pub same_kind : (kids kids2 : List Subtree) → depth_over kids ≡ depth_over kids2 → 0 < length kids

@@ -6,3 +6,4 @@ pub mod SetLemmas
 pub mod MapLemmas
 pub mod RefillLemmas
 pub mod RemoveLemmas
+pub mod SplitLemmas

@@ -6,7 +6,7 @@ use Rattle.std.proofs.lemmas.List.{append_assoc}
 use Rattle.std.specs.List.{insert, remove}
 use Rattle.kv_tree.specs.Subtree.{Pair, Subtree, weave, behind, depth_over, level_of}
 use Rattle.kv_tree.specs.Subtree.{sum_in, nodes_in, inner_over, IsKid, IsThinAt, AreKids}
-use Rattle.kv_tree.specs.Subtree.{AreKidsBut, IsShape}
+use Rattle.kv_tree.specs.Subtree.{AreKidsBut, IsThin, IsShape}
 use Rattle.kv_tree.proofs.WeaveLemmas.{append_none}
 use Rattle.kv_tree.proofs.FillLemmas.{shape_inner, own_level, depth_is, inner_is}
 use Rattle.kv_tree.proofs.SetLemmas.{length_set, length_insert}
@@ -96,7 +96,7 @@ sum_evened number (k ∷ k2 ∷ kids) (suc i) d e left right lt =
     omega (arith, sum_evened number (k2 ∷ kids) i d e left right (omega arith))
 
 kids_merged : (level : ℕ) (kids : List Subtree) (at i : ℕ) (new : Subtree)
-    → AreKidsBut at level kids → i ≤ at → at ≤ i + 1 → suc i < length kids → IsKid level new
+    → AreKidsBut IsThin at level kids → i ≤ at → at ≤ i + 1 → suc i < length kids → IsKid level new
     → AreKids level (set (remove kids (suc i)) i new)
 kids_merged level [] at i new h ge le lt k = absurd (omega arith)
 kids_merged level (k0 ∷ []) at i new h ge le lt k = absurd (omega arith)
@@ -108,7 +108,7 @@ kids_merged level (k0 ∷ k1 ∷ kids) (suc at) (suc i) new h ge le lt k =
     (h.0, kids_merged level (k1 ∷ kids) at i new h.1 (omega arith) (omega arith) (omega arith) k)
 
 kids_evened : (level : ℕ) (kids : List Subtree) (at i : ℕ) (left right : Subtree)
-    → AreKidsBut at level kids → i ≤ at → at ≤ i + 1 → suc i < length kids → IsKid level left
+    → AreKidsBut IsThin at level kids → i ≤ at → at ≤ i + 1 → suc i < length kids → IsKid level left
     → IsKid level right
     → AreKids level (insert (set (remove kids (suc i)) i left) (suc i) right)
 kids_evened level [] at i left right h ge le lt k l = absurd (omega arith)
@@ -132,7 +132,7 @@ pub record IsUneven (level : ℕ) (left right : Subtree) : Type 0 where
   pub low_right : 14 ≤ right.own
   pub few : left.own + right.own ≤ 45
 
-pub uneven : (level : ℕ) (kids : List Subtree) (at i : ℕ) (d e : Subtree) → AreKidsBut at level kids
+pub uneven : (level : ℕ) (kids : List Subtree) (at i : ℕ) (d e : Subtree) → AreKidsBut IsThin at level kids
     → IsThinAt at kids → i ≤ at → at ≤ i + 1 → suc i < length kids
     → IsUneven level (get_or kids i d) (get_or kids (suc i) e)
 uneven level [] at i d e h thin ge le lt = absurd (omega arith)
@@ -164,7 +164,7 @@ thin_at [] at d h = tt
 thin_at (kid ∷ kids) zero d h = h
 thin_at (kid ∷ kids) (suc at) d h = thin_at kids at d h
 
-pub but_enough : (level : ℕ) (kids : List Subtree) (at : ℕ) (d : Subtree) → AreKidsBut at level kids
+pub but_enough : (level : ℕ) (kids : List Subtree) (at : ℕ) (d : Subtree) → AreKidsBut IsThin at level kids
     → 15 ≤ (get_or kids at d).own → AreKids level kids
 but_enough level [] at d h enough = tt
 but_enough level (kid ∷ kids) zero d h enough = (
@@ -179,7 +179,7 @@ but_enough level (kid ∷ kids) zero d h enough = (
 )
 but_enough level (kid ∷ kids) (suc at) d h enough = (h.0, but_enough level kids at d h.1 enough)
 
-but_level : (level : ℕ) (kids : List Subtree) (at : ℕ) → AreKidsBut at level kids → 0 < length kids
+but_level : (level : ℕ) (kids : List Subtree) (at : ℕ) → AreKidsBut IsThin at level kids → 0 < length kids
     → depth_over kids ≡ level + 1
 but_level level [] at h lt = absurd (omega arith)
 but_level level (kid ∷ kids) zero h lt = omega (arith, h.0.depth)
@@ -194,7 +194,7 @@ pub record IsEvened (kids : List Subtree) (own : List Pair) (new : List Subtree)
   pub depth : depth_over new ≡ depth_over kids
 
 pub merged_well : (kids : List Subtree) (own : List Pair) (at i : ℕ) (left : Subtree) (m : Pair)
-    (right new : Subtree) → AreKidsBut at (level_of kids) kids
+    (right new : Subtree) → AreKidsBut IsThin at (level_of kids) kids
     → length kids ≡ length own + 1 → i ≤ at → at ≤ i + 1 → i < length own
     → left ≡ get_or kids i left → m ≡ get_or own i m → right ≡ get_or kids (suc i) right
     → IsKid (level_of kids) new
@@ -225,7 +225,7 @@ merged_well kids own at i left m right new h n ge le lt is1 is2 is3 k same =
     }
 
 pub evened_well : (kids : List Subtree) (own : List Pair) (at i : ℕ) (left : Subtree) (m : Pair)
-    (right new : Subtree) (n2 : Pair) (new2 : Subtree) → AreKidsBut at (level_of kids) kids
+    (right new : Subtree) (n2 : Pair) (new2 : Subtree) → AreKidsBut IsThin at (level_of kids) kids
     → length kids ≡ length own + 1 → i ≤ at → at ≤ i + 1 → i < length own
     → left ≡ get_or kids i left → m ≡ get_or own i m → right ≡ get_or kids (suc i) right
     → IsKid (level_of kids) new → IsKid (level_of kids) new2
@@ -285,7 +285,7 @@ left_is kids rest i left e is lt =
     is ∙ ap (λ (l : List Subtree). get_or l i left) e2 ∙ get_remove kids i left (omega arith)
 
 pub uneven_two : (level : ℕ) (kids : List Subtree) (at i : ℕ) (left right : Subtree)
-    → AreKidsBut at level kids → IsThinAt at kids → i ≤ at → at ≤ i + 1 → suc i < length kids
+    → AreKidsBut IsThin at level kids → IsThinAt at kids → i ≤ at → at ≤ i + 1 → suc i < length kids
     → left ≡ get_or kids i left → right ≡ get_or kids (suc i) right → IsUneven level left right
 uneven_two level kids at i left right h thin ge le lt is1 is3 =
     let u = uneven level kids at i left right h thin ge le lt in
@@ -295,7 +295,7 @@ uneven_two level kids at i left right h thin ge le lt is1 is3 =
 -- two kids that were taken apart
 pub record Two (kids : List Subtree) (own : List Pair) (at i : ℕ) (left : Subtree) (m : Pair)
     (right : Subtree) : Type 0 where
-  pub but : AreKidsBut at (level_of kids) kids
+  pub but : AreKidsBut IsThin at (level_of kids) kids
   pub lengths : length kids ≡ length own + 1
   pub ge : i ≤ at
   pub le : at ≤ i + 1
@@ -307,7 +307,7 @@ pub record Two (kids : List Subtree) (own : List Pair) (at i : ℕ) (left : Subt
 
 pub two_kids : (kids rest : List Subtree) (own : List Pair) (at i : ℕ) (left : Subtree) (m : Pair)
     (right : Subtree)
-    → AreKidsBut at (level_of kids) kids → IsThinAt at kids → length kids ≡ length own + 1
+    → AreKidsBut IsThin at (level_of kids) kids → IsThinAt at kids → length kids ≡ length own + 1
     → i < length own → i ≤ at → at ≤ i + 1
     → rest ≡ remove kids (i + 1) → left ≡ get_or rest i left → m ≡ get_or own i m
     → right ≡ get_or kids (i + 1) right

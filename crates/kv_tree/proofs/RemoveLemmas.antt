@@ -109,14 +109,14 @@ thin_kid level old new k depth fewer own kid = record {
   wide = λ enough. (kid (subst (λ (d : ℕ). IsKid d old) (sym k.depth) k) enough).wide;
 }
 
-but_set : (level : ℕ) (kids : List Subtree) (at : ℕ) (new : Subtree) → AreKids level kids
-    → IsThin level new → AreKidsBut at level (set kids at new)
-but_set level [] at new h k =
-    elim at as (λ (i : ℕ). AreKidsBut i level (set [] i new)) [ zero ↦ tt | suc i ↦ tt ]
-but_set level (kid ∷ kids) zero new h k = (k, h.1)
-but_set level (kid ∷ kids) (suc at) new h k = (h.0, but_set level kids at new h.1 k)
+but_set : (Is : ℕ → Subtree → Type 0) (level : ℕ) (kids : List Subtree) (at : ℕ) (new : Subtree)
+    → AreKids level kids → Is level new → AreKidsBut Is at level (set kids at new)
+but_set Is level [] at new h k =
+    elim at as (λ (i : ℕ). AreKidsBut Is i level (set [] i new)) [ zero ↦ tt | suc i ↦ tt ]
+but_set Is level (kid ∷ kids) zero new h k = (k, h.1)
+but_set Is level (kid ∷ kids) (suc at) new h k = (h.0, but_set Is level kids at new h.1 k)
 
-level_set : (level : ℕ) (kids : List Subtree) (at : ℕ) (new : Subtree) → AreKids level kids
+pub level_set : (level : ℕ) (kids : List Subtree) (at : ℕ) (new : Subtree) → AreKids level kids
     → new.depth ≡ level → at < length kids → level_of (set kids at new) ≡ level
 level_set level [] at new h e lt = absurd (omega arith)
 level_set level (kid ∷ kids) zero new h e lt = e
@@ -128,19 +128,19 @@ depth_set [] at new h e lt = absurd (omega arith)
 depth_set (kid ∷ kids) zero new h e lt = omega (arith, e)
 depth_set (kid ∷ kids) (suc at) new h e lt = refl
 
-pub level_but : (kids : List Subtree) (at : ℕ) (new : Subtree) → AreKids (level_of kids) kids
-    → IsThin (level_of kids) new → at < length kids
-    → AreKidsBut at (level_of (set kids at new)) (set kids at new)
-level_but kids at new h k lt =
-    subst (λ (l : ℕ). AreKidsBut at l (set kids at new))
-    (sym (level_set (level_of kids) kids at new h k.depth lt))
-    (but_set (level_of kids) kids at new h k)
+pub level_but : (Is : ℕ → Subtree → Type 0) (kids : List Subtree) (at : ℕ) (new : Subtree)
+    → AreKids (level_of kids) kids → Is (level_of kids) new → new.depth ≡ level_of kids
+    → at < length kids → AreKidsBut Is at (level_of (set kids at new)) (set kids at new)
+level_but Is kids at new h k depth lt =
+    subst (λ (l : ℕ). AreKidsBut Is at l (set kids at new))
+    (sym (level_set (level_of kids) kids at new h depth lt))
+    (but_set Is (level_of kids) kids at new h k)
 
 -- a node that has pairs enough may stand where it stood
 pub still_kid : (d : ℕ) (kids : List Subtree) (own : List Pair) (a b : ℕ) → IsNode kids own a b
-    → depth_over kids ≡ d → 15 ≤ length own → IsKid d (subtree kids own)
-still_kid d kids own a b n is enough =
-    subst (λ (l : ℕ). IsKid l (subtree kids own)) is (node_kid kids own n.kids n.shape enough n.few)
+    → depth_over kids ≡ d → 15 ≤ length own → length own ≤ 31 → IsKid d (subtree kids own)
+still_kid d kids own a b n is enough few =
+    subst (λ (l : ℕ). IsKid l (subtree kids own)) is (node_kid kids own n.kids n.shape enough few)
 
 pub leaf_shape : (kids : List Subtree) (own : List Pair) → length kids ≤ 0 → IsShape kids own
 leaf_shape [] own h = tt
@@ -244,10 +244,10 @@ pub record IsShrunk (old new : Subtree) : Type 0 where
 
 pub shrunk_level : {s kid : Subtree} {kids : List Subtree} {own : List Pair} {at : ℕ}
     → IsKidOf s kid kids own at → (new : Subtree) → IsShrunk kid new
-    → AreKidsBut at (level_of (set kids at new)) (set kids at new)
+    → AreKidsBut IsThin at (level_of (set kids at new)) (set kids at new)
 shrunk_level {s} {kid} {kids} {own} {at} k new h =
-    level_but kids at new k.level (thin_kid (level_of kids) kid new k.fits h.depth h.fewer h.own
-    h.kid) k.lt
+    level_but IsThin kids at new k.level (thin_kid (level_of kids) kid new k.fits h.depth h.fewer
+    h.own h.kid) (h.depth ∙ k.fits.depth) k.lt
 
 pub shrunk_nodes : {s kid : Subtree} {kids : List Subtree} {own : List Pair} {at : ℕ}
     → IsKidOf s kid kids own at → (new : Subtree)

@@ -63,6 +63,21 @@ turned q x y r s same is answer =
     ap (λ (p : Pair). order q p.0) (sym same) ∙ nat_list_cmp_total.antisymm q x.0
     ∙ ap ordering_reverse (sym is ∙ answer)
 
+-- an item that is less than the key is past too
+pub past_over : (q : List ℕ) (es : List Pair) (at : ℕ) (x : Pair) (r : Ordering)
+    → HasRisingKeys order es → at < length es → x ≡ get_or es at x → r ≡ order x.0 q → r ≡ Less
+    → Past q (take at es) → Past q (take (at + 1) es)
+past_over q es at x r rising lt same is less past =
+    more_past q es at at 1 x rising lt (omega arith) (omega arith)
+    (λ one. turned q x (get_or es at x) r Less same is less) past
+
+-- where an item is before the key, so are all up to it
+pub past_through : (q : List ℕ) (es : List Pair) (i : ℕ) (x : Pair) → HasRisingKeys order es
+    → i < length es → x ≡ get_or es i x → order q x.0 ≡ Greater → Past q (take (i + 1) es)
+past_through q es i x rising lt same is =
+    past_at q es i (i + 1) x (yes _ rising) lt
+    (ap (λ (p : Pair). order q p.0) (sym same) ∙ is) (omega arith)
+
 -- where the last pair is before the key, all are
 pub all_past : (q : List ℕ) (es : List Pair) (i : ℕ) (d : Pair) → HasRisingKeys order es
     → i + 1 ≡ length es → order q (get_or es i d).0 ≡ Greater → Past q (take (length es) es)

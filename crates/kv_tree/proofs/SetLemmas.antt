@@ -3,7 +3,7 @@ use Rattle.std.proofs.Common.{◌≡◌, ℕ, zero, suc, ◌+◌, ◌*◌, ◌<�
 use Rattle.std.proofs.Common.{length, get_or, set, take, drop, length-append}
 use Rattle.std.proofs.Common.{Option, Some, None, IfNone, Less, Equal, Greater}
 use Rattle.std.proofs.Common.{refl, sym, ap, ◌∙◌, subst, arith}
-use Rattle.std.proofs.Common.{inl, inr, Bool, true, false}
+use Rattle.std.proofs.Common.{inl, inr, Bool, T, true, false}
 use Rattle.std.proofs.lemmas.Bool.{cases_lt}
 use Rattle.std.proofs.lemmas.List.{append_assoc}
 use Rattle.std.specs.List.{insert}
@@ -14,7 +14,7 @@ use Rattle.kv_index.specs.Places.{HasRisingKeys, IsGap}
 use Rattle.kv_index.proofs.PlacesLemmas.{put_gap}
 use Rattle.kv_tree.specs.Subtree.{Pair, Subtree, weave, behind, subtree, depth_over, level_of}
 use Rattle.kv_tree.specs.Subtree.{sum_in, nodes_in, inner_in, inner_over, IsKid, AreKids, IsShape}
-use Rattle.kv_tree.specs.Subtree.{Spares, HasRoom, HasWidth, TakesAtMost, new_keys}
+use Rattle.kv_tree.specs.Subtree.{Spares, HasRoom, HasWidth, TakesAtMost, new_keys, IsFilled}
 use Rattle.kv_tree.proofs.WeaveLemmas.{append_none, order, AtKid, AtItem, put_focus}
 use Rattle.kv_tree.proofs.WeaveLemmas.{put_item}
 use Rattle.kv_tree.proofs.WeaveLemmas.{leaf_weave}
@@ -91,7 +91,7 @@ put_kid {q} {s} {kid} {kids} {own} {at} v new k le is =
     ∙ sym (put_focus v k.focus)
 
 -- the pairs after a kid is split
-weave_split_kid : (kids : List Subtree) (own : List Pair) (at : ℕ) (left : Subtree) (m : Pair)
+pub weave_split_kid : (kids : List Subtree) (own : List Pair) (at : ℕ) (left : Subtree) (m : Pair)
     (right : Subtree) → length kids ≡ length own + 1 → at ≤ length own
     → weave (insert (set kids at left) (suc at) right) (insert own at m)
     ≡ weave (take at kids) (take at own) ++ ((left.pairs ++ m ∷ right.pairs)
@@ -148,7 +148,7 @@ pub record Grown (q : List ℕ) (v : Entry) (s : Subtree) (kids : List Subtree) 
   pub shape : IsShape kids own
   pub depth : depth_over kids ≡ s.depth
 
--- by a kid that was not split
+-- by a kid
 pub grown_kid : (q : List ℕ) (v : Entry) (s kid : Subtree) (kids : List Subtree) (own : List Pair)
     (at : ℕ) (new : Subtree) → AtKid q s kid kids own at
     → subtree kids own ≡ s → AreKids (level_of kids) kids → at ≤ length own → IsKid kid.depth new
@@ -163,35 +163,6 @@ grown_kid q v s kid kids own at new k view level le fits is =
       level = own_level _ _ all;
       shape = shape_inner _ _ n;
       depth = depth_is (level_of kids) (set kids at new) all (omega arith)
-          ∙ sym (depth_is (level_of kids) kids level (omega (arith, k.lengths)))
-          ∙ ap (λ (t : Subtree). t.depth) view;
-    }
-
--- by a kid that was
-pub grown_split : (q : List ℕ) (v : Entry) (s kid : Subtree) (kids : List Subtree) (own : List Pair)
-    (at : ℕ) (left : Subtree) (m : Pair) (right : Subtree)
-    → AtKid q s kid kids own at → subtree kids own ≡ s → AreKids (level_of kids) kids
-    → at ≤ length own → IsKid kid.depth left → IsKid kid.depth right
-    → left.pairs ++ m ∷ right.pairs ≡ put order q v kid.pairs
-    → Grown q v s (insert (set kids at left) (suc at) right) (insert own at m)
-grown_split q v s kid kids own at left m right k view level le fits fits2 is =
-    let low : IsKid (level_of kids) left = subst (λ (d : ℕ). IsKid d left) k.fits.depth fits in
-    let low2 : IsKid (level_of kids) right = subst (λ (d : ℕ). IsKid d right) k.fits.depth fits2 in
-    let all = kids_insert (level_of kids) (set kids at left) (suc at) right
-    (kids_set (level_of kids) kids at left level low) low2 in
-    let n1 : length (set kids at left) ≡ length own + 1 = length_set kids at left ∙ k.lengths in
-    let n2 : length (insert (set kids at left) (suc at) right)
-    ≡ length own + 1 + 1 = length_insert (set kids at left) (suc at) right (omega arith)
-    ∙ omega (arith, n1) in
-    let n3 : length (insert own at m) ≡ length own + 1 = length_insert own at m le in
-    record {
-      pairs = weave_split_kid kids own at left m right k.lengths le
-          ∙ ap (λ (mid : List Pair). weave (take at kids) (take at own)
-          ++ (mid ++ behind (drop (suc at) kids) (drop at own))) is
-          ∙ sym (put_focus v k.focus);
-      level = own_level _ _ all;
-      shape = shape_inner _ _ (omega arith);
-      depth = depth_is (level_of kids) (insert (set kids at left) (suc at) right) all (omega arith)
           ∙ sym (depth_is (level_of kids) kids level (omega (arith, k.lengths)))
           ∙ ap (λ (t : Subtree). t.depth) view;
     }
@@ -314,46 +285,60 @@ length_put q v (e ∷ es) =
       | Greater ↦ omega (arith, length_put q v es)
     ]
 
--- where a node overflows, a spare node is left
-pub spare_left : (q : List ℕ) (v : Entry) (s : Subtree) (kids own_kids : List Subtree)
-    (own own2 : List Pair) (spares left : Spares) → subtree own_kids own ≡ s
-    → Grown q v s kids own2 → HasRoom s spares → length own ≤ 31 → 31 < length own2
-    → length own2 ≤ 32
-    → nodes_in kids + left.nodes ≡ nodes_in own_kids + spares.nodes
-    → (spares.inner < spares.nodes → 0 < left.nodes)
+-- a node that was given a pair, and now has one too many to stand below another
+pub record IsOverfull (q : List ℕ) (v : Entry) (old new : Subtree) (spares left : Spares) :
+    Type 0 where
+  pub pairs : new.pairs ≡ put order q v old.pairs
+  pub filled : IsFilled new
+  pub many : 31 < new.own
+  pub nodes : new.nodes + left.nodes ≡ old.nodes + spares.nodes
+  pub inner : new.inner + left.inner ≡ old.inner + spares.inner
+  pub takes : TakesAtMost 1 spares left
+  pub leaf : new.depth ≡ 0 → TakesAtMost 0 spares left
+
+-- where a node overflows, unless it is a leaf, room for kids is left
+pub inner_left : {q : List ℕ} {v : Entry} {old new : Subtree} {spares left : Spares}
+    → IsOverfull q v old new spares left → 15 ≤ old.own → HasWidth old spares → 0 < new.depth
+    → 0 < left.inner
+inner_left o low width some = omega (arith, o.filled.wide some, o.many, o.nodes, o.inner)
+
+more_left : (depth : ℕ) (spares left : Spares) → spares.inner < spares.nodes
+    → TakesAtMost 1 spares left → (depth ≡ 0 → TakesAtMost 0 spares left)
+    → (0 < depth → 0 < left.inner)
     → 0 < left.nodes
-spare_left q v s kids own_kids own own2 spares left view g room few many most kept rest =
+more_left zero spares left more takes leaf inner = omega (arith, leaf refl)
+more_left (suc depth) spares left more takes leaf inner = omega (arith, inner (omega arith))
+
+-- and a spare node
+pub spare_left : {q : List ℕ} {v : Entry} {old new : Subtree} {spares left : Spares}
+    → IsOverfull q v old new spares left → 15 ≤ old.own → HasRoom old spares → HasWidth old spares
+    → 0 < left.nodes
+spare_left {q} {v} {old} {new} {spares} {left} o low room width =
     elim (cases_lt spares.inner spares.nodes) as (λ _. 0 < left.nodes) [
-      | inl more ↦ rest more
-      | inr few_nodes ↦
-          let here = room few_nodes in
+      | inl more ↦ more_left new.depth spares left more o.takes o.leaf (inner_left o low width)
+      | inr few ↦
+          let here = room few in
           omega (
             arith,
-            weave_full (level_of kids) kids own2 g.level g.shape,
-            ap length g.pairs,
-            length_put q v s.pairs,
-            ap (λ (t : Subtree). t.nodes) view,
-            ap (λ (t : Subtree). t.own) view,
+            o.filled.full,
+            o.many,
+            o.nodes,
+            ap length o.pairs,
+            length_put q v old.pairs,
           )
     ]
 
--- and if it has kids, room for the kids of one
-pub inner_left : (q : List ℕ) (v : Entry) (s : Subtree) (kids own_kids : List Subtree)
-    (own own2 : List Pair) (spares left : Spares) → subtree own_kids own ≡ s
-    → Grown q v s kids own2 → HasWidth s spares → length own ≤ 31 → 31 < length own2
-    → length own2 ≤ length own + 1 → 0 < length kids
-    → nodes_in kids + left.nodes ≡ nodes_in own_kids + spares.nodes
-    → inner_over kids + left.inner ≡ s.inner + spares.inner → 0 < left.inner
-inner_left q v s kids own_kids own own2 spares left view g width few many most some kept
-    kept_inner =
-    omega (
-      arith,
-      inner_wide (level_of kids) kids g.level,
-      inner_is kids some,
-      shape_length kids own2 g.shape some,
-      ap (λ (t : Subtree). t.nodes) view,
-      ap (λ (t : Subtree). t.own) view,
-    )
+-- what is taken for a kid and then to split it is at most one node more than room for kids, where
+-- the key is new
+pub takes_both : (found : Bool) (depth : ℕ) (first second third : Spares)
+    → TakesAtMost (new_keys found) first second → (depth ≡ 0 → TakesAtMost 0 first second)
+    → TakesAtMost 1 second third → (0 < depth → TakesAtMost 0 second third) → found ≡ false
+    → TakesAtMost (new_keys found) first third
+takes_both true depth first second third takes leaf split inner new =
+    absurd (subst T new tt)
+takes_both false zero first second third takes leaf split inner new = omega (arith, leaf refl)
+takes_both false (suc depth) first second third takes leaf split inner new =
+    omega (arith, inner (omega arith))
 
 -- a node that has grown and has pairs enough may stand where it stood
 pub grown_fits : (q : List ℕ) (v : Entry) (s : Subtree) (kids : List Subtree) (own : List Pair)
@@ -373,40 +358,58 @@ kid_again s kids own own2 view level shape len few fits =
     (node_kid kids own2 level shape (omega (arith, fits.low, ap (λ (t : Subtree). t.own) view))
     (omega arith))
 
-pub if_none : {A P Q : Type 0} (o : Option A) → (P → Q) → IfNone o P → IfNone o Q
-if_none None f p = f p
-if_none (Some x) f p = tt
+-- where a root that has kids overflows, room for kids is left twice
+pub top_twice : {q : List ℕ} {v : Entry} {old new : Subtree} {spares left : Spares}
+    → IsOverfull q v old new spares left
+    → old.nodes + spares.nodes ≤ 16 * (old.inner + spares.inner) + 1 → 0 < new.depth
+    → 1 < left.inner
+top_twice o wide some = omega (arith, o.filled.wide some, o.many, o.nodes, o.inner)
 
--- where the root overflows, room for the kids of a new root is left
-pub top_inner : (s left right : Subtree) (level : ℕ) (spares rest : Spares) → IsKid level left
-    → IsKid level right
-    → (left.nodes + right.nodes) + rest.nodes ≡ s.nodes + spares.nodes
-    → (left.inner + right.inner) + rest.inner ≡ s.inner + spares.inner
-    → s.nodes + spares.nodes ≤ 16 * (s.inner + spares.inner) + 1 → 0 < rest.inner
-top_inner s left right level spares rest l r kept kept_inner wide = omega (arith, l.wide, r.wide)
+more_twice : {q : List ℕ} {v : Entry} {old new : Subtree} {spares left : Spares} (depth : ℕ)
+    → new.depth ≡ depth → IsOverfull q v old new spares left
+    → old.nodes + spares.nodes ≤ 16 * (old.inner + spares.inner) + 1 → spares.inner < spares.nodes
+    → 1 < left.nodes
+more_twice zero is o wide more =
+    let alone = o.filled.leaf is in
+    omega (arith, o.leaf is, alone.0, alone.1, o.nodes, o.inner)
+more_twice (suc depth) is o wide more =
+    omega (arith, top_twice o wide (omega arith), o.takes)
 
--- and a spare node
-pub top_left : (q : List ℕ) (v : Entry) (s left : Subtree) (m : Pair) (right : Subtree)
-    (level more : ℕ) (spares rest : Spares) → IsKid level left → IsKid level right
-    → left.pairs ++ m ∷ right.pairs ≡ put order q v s.pairs
-    → (left.nodes + right.nodes) + rest.nodes ≡ s.nodes + spares.nodes
-    → TakesAtMost more spares rest → more ≤ 1 → 0 < rest.inner
-    → (spares.nodes ≤ spares.inner → length s.pairs + 1 < 15 * (s.nodes + spares.nodes))
-    → 0 < rest.nodes
-top_left q v s left m right level more spares rest l r is kept takes one some enough =
-    elim (cases_lt spares.inner spares.nodes) as (λ _. 0 < rest.nodes) [
-      | inl many ↦ omega arith
+-- and two spare nodes are
+pub top_nodes : {q : List ℕ} {v : Entry} {old new : Subtree} {spares left : Spares}
+    → IsOverfull q v old new spares left
+    → old.nodes + spares.nodes ≤ 16 * (old.inner + spares.inner) + 1
+    → (spares.nodes ≤ spares.inner → length old.pairs + 1 < 15 * (old.nodes + spares.nodes))
+    → 1 < left.nodes
+top_nodes {q} {v} {old} {new} {spares} {left} o wide enough =
+    elim (cases_lt spares.inner spares.nodes) as (λ _. 1 < left.nodes) [
+      | inl more ↦ more_twice new.depth refl o wide more
       | inr few ↦
           let here = enough few in
           omega (
             arith,
-            l.full,
-            r.full,
-            ap length is,
-            length-append left.pairs (m ∷ right.pairs),
-            length_put q v s.pairs,
+            o.filled.full,
+            o.many,
+            o.nodes,
+            ap length o.pairs,
+            length_put q v old.pairs,
           )
     ]
+
+kids_left : {q : List ℕ} {v : Entry} {old new : Subtree} {spares left : Spares} (depth : ℕ)
+    → new.depth ≡ depth → IsOverfull q v old new spares left
+    → old.nodes + spares.nodes ≤ 16 * (old.inner + spares.inner) + 1 → 1 < left.nodes
+    → 0 < left.inner
+kids_left zero is o wide more =
+    let alone = o.filled.leaf is in omega (arith, alone.0, alone.1, o.nodes, o.inner)
+kids_left (suc depth) is o wide more = omega (arith, top_twice o wide (omega arith))
+
+-- and room for the kids of a new root is, whatever the root is
+pub top_inner : {q : List ℕ} {v : Entry} {old new : Subtree} {spares left : Spares}
+    → IsOverfull q v old new spares left
+    → old.nodes + spares.nodes ≤ 16 * (old.inner + spares.inner) + 1 → 1 < left.nodes
+    → 0 < left.inner
+top_inner {new = new} o wide more = kids_left new.depth refl o wide more
 
 -- a search takes at most one node more than room for kids
 pub one_key_more : (found : Bool) → new_keys found ≤ 1

@@ -107,12 +107,12 @@ abbrev pub IsShape : List Subtree → List Pair → Type 0
 IsShape [] own = Unit {0}
 IsShape (kid ∷ kids) own = length kids ≡ length own
 
--- a node with all its leaves at one depth, and with room for one more item than it may have, and
--- unless it is a leaf for one more kid
+-- a node with all its leaves at one depth, with one pair more at most than it may have below
+-- another, and with room for those and, unless it is a leaf, for their kids
 pub record IsNode (below : List Subtree) (own : List Pair) (kids_fit items_fit : ℕ) : Type 0 where
   pub kids : AreKids (level_of below) below
   pub shape : IsShape below own
-  pub few : length own ≤ 31
+  pub few : length own ≤ 32
   pub kid_room : 0 < length below → 33 ≤ kids_fit
   pub item_room : 32 ≤ items_fit
 
@@ -233,14 +233,26 @@ pub record IsThin (level : ℕ) (kid : Subtree) : Type 0 where
   pub full : 15 ≤ kid.own → 15 * kid.nodes ≤ length kid.pairs
   pub wide : 15 ≤ kid.own → 16 * kid.inner + 1 ≤ kid.nodes
 
--- each may stand below another, and the one at this place may want a pair
-abbrev pub AreKidsBut : ℕ → ℕ → List Subtree → Type 0
-AreKidsBut at level [] = Unit {0}
-AreKidsBut zero level (kid ∷ kids) = IsThin level kid × AreKids level kids
-AreKidsBut (suc at) level (kid ∷ kids) = IsKid level kid × AreKidsBut at level kids
+-- each may stand below another, but for the one at this place, of which this is known
+abbrev pub AreKidsBut : (ℕ → Subtree → Type 0) → ℕ → ℕ → List Subtree → Type 0
+AreKidsBut Is at level [] = Unit {0}
+AreKidsBut Is zero level (kid ∷ kids) = Is level kid × AreKids level kids
+AreKidsBut Is (suc at) level (kid ∷ kids) = IsKid level kid × AreKidsBut Is at level kids
 
 -- the node at this place wants a pair
 abbrev pub IsThinAt : ℕ → List Subtree → Type 0
 IsThinAt at [] = Unit {0}
 IsThinAt zero (kid ∷ kids) = kid.own < 15
 IsThinAt (suc at) (kid ∷ kids) = IsThinAt at kids
+
+-- a node that has one pair too many to stand below another
+pub record IsOver (level : ℕ) (kid : Subtree) : Type 0 where
+  pub depth : kid.depth ≡ level
+  pub own : kid.own ≡ 32
+
+-- a node holds 15 pairs for each node below it, and its own; if it has kids, there are 16 nodes
+-- below it for each of those that have some, and one for each pair of its own
+pub record IsFilled (s : Subtree) : Type 0 where
+  pub full : 15 * s.nodes + s.own ≤ length s.pairs + 15
+  pub wide : 0 < s.depth → 16 * s.inner + s.own ≤ s.nodes + 14
+  pub leaf : s.depth ≡ 0 → (s.inner ≡ 0) × (s.nodes ≡ 1)

@@ -3,7 +3,7 @@ ghost use Rattle.std.specs.Prelude.{vec_capacity};
 ghost use Rattle.kv_tree.specs.Subtree.{weave, joined_pairs, joined_nodes, joined_inner, nodes_in};
 ghost use Rattle.kv_tree.specs.Subtree.{inner_over, depth_over, level_of, IsNode, IsKid};
 ghost use Rattle.kv_tree.specs.Subtree.{AreKidsBut};
-ghost use Rattle.kv_tree.specs.Subtree.{IsThinAt, TakesAtMost};
+ghost use Rattle.kv_tree.specs.Subtree.{IsThin, IsThinAt, TakesAtMost};
 
 use crate::item::Item;
 use crate::moves::{
@@ -120,7 +120,7 @@ fn shift_right(left: &mut Node, middle: Item, mut right: Node) -> (Item, Node)
 
 /// Makes the kid at this place half full again, where it wants an item.
 pub fn refill(items: &mut Vec<Item>, kids: &mut Vec<Node>, at: usize, pool: &mut Pool)
-    requires level { AreKidsBut at (level_of kids.old.items) kids.old.items }
+    requires level { AreKidsBut IsThin at (level_of kids.old.items) kids.old.items }
     requires lengths { vec_len kids.old ≡ vec_len items.old + 1 }
     requires at { at < vec_len kids.old }
     requires some { 0 < vec_len items.old }
@@ -149,9 +149,11 @@ pub fn refill(items: &mut Vec<Item>, kids: &mut Vec<Node>, at: usize, pool: &mut
     }
 }
 
-// Evens out the kids at a place and behind it, of which one wants an item.
+// Evens out the kids at a place and behind it, of which one wants an item. It stands apart, since
+// few removals come to it.
+#[inline(never)]
 fn even_at(items: &mut Vec<Item>, kids: &mut Vec<Node>, at: usize, first: usize, pool: &mut Pool)
-    requires level { AreKidsBut at (level_of kids.old.items) kids.old.items }
+    requires level { AreKidsBut IsThin at (level_of kids.old.items) kids.old.items }
     requires lengths { vec_len kids.old ≡ vec_len items.old + 1 }
     requires at { at < vec_len kids.old }
     requires thin { IsThinAt at kids.old.items }

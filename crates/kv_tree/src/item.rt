@@ -1,5 +1,5 @@
-ghost use Rattle.std.specs.Prelude.{◌≡◌, ◌≤◌, ℕ, List};
-ghost use Rattle.std.specs.declared.cmp.Ordering.TheVariants.{Greater};
+ghost use Rattle.std.specs.Prelude.{◌≡◌, ◌≤◌, ℕ, List, IsTrue};
+ghost use Rattle.std.specs.declared.cmp.Ordering.TheVariants.{Less, Greater};
 ghost use Rattle.std.specs.Ordering.{nat_cmp};
 ghost use Rattle.std.specs.Cmp.Lexicographic.{slice_cmp};
 ghost use Rattle.kv_tree.specs.Head.{HasHead};
@@ -79,6 +79,14 @@ impl Item {
             → slice_cmp nat_cmp key self.now.0 ≡ Greater }
     {
         if self.head < number { 1 } else { 0 }
+    }
+
+    /// Whether its head is above this one, so that its key is above each key with that head.
+    pub fn is_above(&self, number: u64) -> bool
+        ensures { IsTrue result → (key : List ℕ) → HasHead key number
+            → slice_cmp nat_cmp key self.now.0 ≡ Less }
+    {
+        number < self.head
     }
 
     /// How the item's key compares with this one, whose head is given.

@@ -1,20 +1,19 @@
-ghost use Rattle.std.specs.Prelude.{[], ◌∷◌, ◌++◌, ◌≡◌, ◌+◌, ◌*◌, ◌<◌, ◌≤◌, IfOk, IfSome, IfNone};
-ghost use Rattle.std.specs.Prelude.{MatchOption, Some, None, is_some};
+ghost use Rattle.std.specs.Prelude.{[], ◌∷◌, ◌++◌, ◌≡◌, ◌+◌, ◌*◌, ◌<◌, ◌≤◌, IfOk};
+ghost use Rattle.std.specs.Prelude.{MatchOption, Some, None, is_some, false};
 ghost use Rattle.std.specs.Ordering.{nat_cmp};
 ghost use Rattle.std.specs.Cmp.Lexicographic.{slice_cmp};
 ghost use Rattle.std.specs.FinMap.Entries.{put};
 ghost use Rattle.kv_index.specs.Places.{HasRisingKeys};
 ghost use Rattle.kv_tree.specs.Head.{HasHead};
-ghost use Rattle.kv_tree.specs.Subtree.{entry_of, next_from, blank, joined_pairs, joined_nodes};
-ghost use Rattle.kv_tree.specs.Subtree.{joined_inner, without, IsKid, HasRoom, HasWidth};
-ghost use Rattle.kv_tree.specs.Subtree.{TakesAtMost, new_keys};
+ghost use Rattle.kv_tree.specs.Subtree.{entry_of, next_from, blank, without, new_keys};
+ghost use Rattle.kv_tree.specs.Subtree.{IsKid, IsFilled, HasRoom, HasWidth, TakesAtMost};
 
 use crate::even::refill;
 use crate::item::Item;
 use crate::moves::{insert_within, take_last};
 use crate::pool::Pool;
-use crate::search::place_of;
-use crate::split::split_over;
+use crate::search::{place_in_order, place_of};
+use crate::split::split_kid;
 use kv_base::NoMemory;
 use kv_index::Entry;
 use std::alloc::Global;
@@ -63,7 +62,8 @@ impl Node {
     /// The number of its own items.
     pub fn own(&self) -> usize
         ensures value { result ≡ self.now.own }
-        ensures few { self.now.own ≤ 31 }
+        ensures few { self.now.own ≤ 32 }
+        ensures filled { IsFilled self.now }
     {
         self.items.len()
     }
@@ -86,55 +86,48 @@ impl Node {
         }
     }
 
-    /// Gives the key this entry, and answers whether it was there. Where the node overflows, what
-    /// is right of its middle item comes back.
-    pub fn set(&mut self, number: u64, pool: &mut Pool, item: Item) -> (bool, Option<(Item, Node)>)
+    /// Gives the key this entry, and answers whether it was there. The node may be left with one
+    /// item more than may stand below another.
+    pub fn set(&mut self, number: u64, pool: &mut Pool, item: Item) -> bool
         requires rising { HasRisingKeys (slice_cmp nat_cmp) self.old.pairs }
         requires number { HasHead item.0 number }
         requires few { self.old.own ≤ 31 }
         requires room { HasRoom self.old pool.old }
         requires width { HasWidth self.old pool.old }
-        ensures found { result.0 ≡ is_some (entry_of self.old.pairs item.0) }
-        ensures pairs { joined_pairs self.new result.1 ≡ put (slice_cmp nat_cmp) item.0 item.1
-            self.old.pairs }
+        ensures found { result ≡ is_some (entry_of self.old.pairs item.0) }
+        ensures pairs { self.new.pairs ≡ put (slice_cmp nat_cmp) item.0 item.1 self.old.pairs }
 
         // what it takes from the pool
-        ensures nodes { joined_nodes self.new result.1 + pool.new.nodes
-            ≡ self.old.nodes + pool.old.nodes }
-        ensures inner { joined_inner self.new result.1 + pool.new.inner
-            ≡ self.old.inner + pool.old.inner }
-        ensures takes { TakesAtMost (new_keys result.0) pool.old pool.new }
+        ensures nodes { self.new.nodes + pool.new.nodes ≡ self.old.nodes + pool.old.nodes }
+        ensures inner { self.new.inner + pool.new.inner ≡ self.old.inner + pool.old.inner }
+        ensures takes { TakesAtMost (new_keys result) pool.old pool.new }
+        ensures leaf { self.old.depth ≡ 0 → TakesAtMost 0 pool.old pool.new }
         ensures room { pool.new.room ≡ pool.old.room }
 
         // what shape it leaves
-        ensures whole { IfNone result.1 (self.new.depth ≡ self.old.depth) }
-        ensures own { IfNone result.1 ((self.old.own ≤ self.new.own) × (self.new.own ≤ 31)) }
-        ensures kid { IfNone result.1 (IsKid self.old.depth self.old
-            → IsKid self.old.depth self.new) }
-        ensures split { IfSome result.1 (λ right. IsKid self.old.depth self.new
-            × IsKid self.old.depth right.1) }
+        ensures depth { self.new.depth ≡ self.old.depth }
+        ensures own { (self.old.own ≤ self.new.own) × (self.new.own ≤ self.old.own + 1) }
+        ensures over { 31 < self.new.own → result ≡ false }
+        ensures kid { IsKid self.old.depth self.old → self.new.own ≤ 31
+            → IsKid self.old.depth self.new }
     {
         match place_of(&self.items, number, item.key()) {
             Ok(at) => {
                 let own = &mut self.items[at];
                 own.set_entry(item.entry());
-                (true, None)
+                true
             }
             Err(at) => {
                 if self.kids.len() > 0 {
                     let kid = &mut self.kids[at];
-                    let (found, split) = kid.set(number, pool, item);
-                    match split {
-                        None => (found, None),
-                        Some((middle, right)) => {
-                            insert_within(&mut self.items, at, middle);
-                            insert_within(&mut self.kids, at + 1, right);
-                            (found, split_over(&mut self.items, &mut self.kids, pool))
-                        }
+                    let found = kid.set(number, pool, item);
+                    if kid.own() > 31 {
+                        split_kid(&mut self.items, &mut self.kids, at, pool);
                     }
+                    found
                 } else {
                     insert_within(&mut self.items, at, item);
-                    (false, split_over(&mut self.items, &mut self.kids, pool))
+                    false
                 }
             }
         }
@@ -145,6 +138,7 @@ impl Node {
         requires rising { HasRisingKeys (slice_cmp nat_cmp) self.old.pairs }
         requires number { HasHead key.now number }
         requires has_own { 0 < self.old.depth → 0 < self.old.own }
+        requires few { self.old.own ≤ 31 }
         requires room { self.old.nodes + pool.old.nodes ≤ pool.old.room }
         requires inner_room { self.old.inner + pool.old.inner ≤ pool.old.room }
         ensures value { result ≡ entry_of self.old.pairs key.now }
@@ -189,6 +183,7 @@ impl Node {
     /// Takes the greatest item out. The node may be left with one item less than half.
     fn take_greatest(&mut self, pool: &mut Pool) -> Item
         requires some { 0 < self.old.own }
+        requires few { self.old.own ≤ 31 }
         requires room { self.old.nodes + pool.old.nodes ≤ pool.old.room }
         requires inner_room { self.old.inner + pool.old.inner ≤ pool.old.room }
         ensures pairs { self.old.pairs ≡ self.new.pairs ++ result ∷ [] }
@@ -220,7 +215,7 @@ impl Node {
         ensures { MatchOption result (next_from key.now self.now.pairs ≡ None)
             (λ next. next_from key.now self.now.pairs ≡ Some (next.0.now, next.1)) }
     {
-        match place_of(&self.items, number, key) {
+        match place_in_order(&self.items, self.kids.is_empty(), number, key) {
             Ok(at) => {
                 let item = &self.items[at];
                 Some((item.key(), item.entry()))

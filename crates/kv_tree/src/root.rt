@@ -12,11 +12,12 @@ use crate::item::Item;
 use crate::moves::{push_within, take_last};
 use crate::node::Node;
 use crate::pool::Pool;
+use crate::split::split;
 use kv_index::Entry;
 use std::mem;
 
 // Puts a node over the root and what was split off to its right.
-fn raise(root: &mut Node, middle: Item, right: Node, top: Node, kids: Vec<Node>)
+fn put_over(root: &mut Node, middle: Item, right: Node, top: Node, kids: Vec<Node>)
     requires blank { top ≡ blank }
     requires empty { kids.items ≡ [] }
     requires kid_room { 33 ≤ vec_capacity kids }
@@ -41,6 +42,27 @@ fn two_kids(left: Node, right: Node, mut kids: Vec<Node>) -> Vec<Node>
     kids
 }
 
+// Cuts a root that has an item too many in two, and puts a node over both.
+#[inline(never)]
+fn raise(root: &mut Node, pool: &mut Pool)
+    requires own { root.old.own ≡ 32 }
+    requires spare { 1 < pool.old.nodes }
+    requires inner { 0 < pool.old.inner }
+    requires spare_inner { 0 < root.old.depth → 1 < pool.old.inner }
+    ensures pairs { root.new.pairs ≡ root.old.pairs }
+    ensures nodes { root.new.nodes + pool.new.nodes ≡ root.old.nodes + pool.old.nodes }
+    ensures inner { root.new.inner + pool.new.inner ≡ root.old.inner + pool.old.inner }
+    ensures takes { TakesAtMost 1 pool.old pool.new }
+    ensures takes_inner { 0 < root.old.depth → TakesAtMost 0 pool.old pool.new }
+    ensures room { pool.new.room ≡ pool.old.room }
+    ensures own { root.new.own ≡ 1 }
+{
+    let (middle, right) = split(root, pool);
+    let top = pool.take();
+    let kids = pool.take_kids();
+    put_over(root, middle, right, top, kids);
+}
+
 /// Gives the key this entry in the tree of the root, which may grow by a level, and answers whether
 /// the key was there.
 pub fn set_below(root: &mut Node, number: u64, pool: &mut Pool, item: Item) -> bool
@@ -60,14 +82,9 @@ pub fn set_below(root: &mut Node, number: u64, pool: &mut Pool, item: Item) -> b
     ensures has_own { (0 < root.old.depth → 0 < root.old.own) → 0 < root.new.depth
         → 0 < root.new.own }
 {
-    let (found, split) = root.set(number, pool, item);
-    match split {
-        None => {}
-        Some((middle, right)) => {
-            let top = pool.take();
-            let kids = pool.take_kids();
-            raise(root, middle, right, top, kids);
-        }
+    let found = root.set(number, pool, item);
+    if root.own() > 31 {
+        raise(root, pool);
     }
     found
 }

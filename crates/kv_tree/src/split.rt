@@ -1,53 +1,66 @@
-ghost use Rattle.std.specs.Prelude.{[], ◌++◌, ◌≡◌, ◌+◌, ◌<◌, ◌≤◌, IfSome, IfNone, vec_len};
+ghost use Rattle.std.specs.Prelude.{[], ◌∷◌, ◌++◌, ◌≡◌, ◌+◌, ◌<◌, ◌≤◌, vec_len};
 ghost use Rattle.std.specs.Prelude.{vec_capacity};
-ghost use Rattle.kv_tree.specs.Subtree.{weave, subtree, joined_pairs, joined_nodes, joined_inner};
-ghost use Rattle.kv_tree.specs.Subtree.{nodes_in, inner_over, depth_over, level_of};
-ghost use Rattle.kv_tree.specs.Subtree.{AreKids, IsShape, IsNode, IsKid, TakesAtMost};
+ghost use Rattle.kv_tree.specs.Subtree.{weave, nodes_in, inner_over, depth_over, level_of};
+ghost use Rattle.kv_tree.specs.Subtree.{AreKidsBut, IsNode, IsKid, IsOver, TakesAtMost};
 
 use crate::item::Item;
-use crate::moves::{move_tail, take_last};
+use crate::moves::{insert_within, move_tail, take_last};
 use crate::node::Node;
 use crate::pool::Pool;
 
-/// Where there are too many items, moves those right of the middle one into a node of their own.
-pub fn split_over(
-    items: &mut Vec<Item>,
-    kids: &mut Vec<Node>,
-    pool: &mut Pool,
-) -> Option<(Item, Node)>
-    requires level { AreKids (level_of kids.old.items) kids.old.items }
-    requires shape { IsShape kids.old.items items.old.items }
-    requires few { vec_len items.old ≤ 32 }
+/// Moves what is right of the middle item of a node that has one too many into a node of its own.
+pub fn split(left: &mut Node, pool: &mut Pool) -> (Item, Node)
+    requires own { left.old.own ≡ 32 }
+    requires spare { 0 < pool.old.nodes }
+    requires spare_inner { 0 < left.old.depth → 0 < pool.old.inner }
+    ensures pairs { left.new.pairs ++ result.0 ∷ result.1.pairs ≡ left.old.pairs }
+    ensures nodes { left.new.nodes + result.1.nodes + pool.new.nodes
+        ≡ left.old.nodes + pool.old.nodes }
+    ensures inner { left.new.inner + result.1.inner + pool.new.inner
+        ≡ left.old.inner + pool.old.inner }
+    ensures takes { pool.new.nodes + 1 ≡ pool.old.nodes }
+    ensures takes_inner { 0 < left.old.depth → pool.new.inner + 1 ≡ pool.old.inner }
+    ensures leaf { left.old.depth ≡ 0 → pool.new.inner ≡ pool.old.inner }
+    ensures room { pool.new.room ≡ pool.old.room }
+    ensures left { IsKid left.old.depth left.new }
+    ensures right { IsKid left.old.depth result.1 }
+{
+    let mut right = pool.take();
+    move_tail(&mut left.items, 17, &mut right.items);
+    right.kids = split_kids(&mut left.kids, pool);
+    let middle = take_last(&mut left.items);
+    (middle, right)
+}
+
+/// Cuts the kid at this place, which has one item too many, in two. It stands apart, since few
+/// changes come to it.
+#[inline(never)]
+pub fn split_kid(items: &mut Vec<Item>, kids: &mut Vec<Node>, at: usize, pool: &mut Pool)
+    requires level { AreKidsBut IsOver at (level_of kids.old.items) kids.old.items }
+    requires lengths { vec_len kids.old ≡ vec_len items.old + 1 }
+    requires at { at < vec_len kids.old }
+    requires few { vec_len items.old ≤ 31 }
     requires item_room { 32 ≤ vec_capacity items.old }
-    requires kid_room { 0 < vec_len kids.old → 33 ≤ vec_capacity kids.old }
-    requires spare { 31 < vec_len items.old → 0 < pool.old.nodes }
-    requires spare_inner { 31 < vec_len items.old → 0 < vec_len kids.old → 0 < pool.old.inner }
-    ensures pairs { joined_pairs (subtree kids.new.items items.new.items) result
-        ≡ weave kids.old.items items.old.items }
-    ensures nodes { joined_nodes (subtree kids.new.items items.new.items) result + pool.new.nodes
-        ≡ nodes_in kids.old.items + 1 + pool.old.nodes }
-    ensures inner { joined_inner (subtree kids.new.items items.new.items) result + pool.new.inner
+    requires kid_room { 33 ≤ vec_capacity kids.old }
+    requires spare { 0 < pool.old.nodes }
+    requires spare_inner { 0 < level_of kids.old.items → 0 < pool.old.inner }
+    ensures pairs { weave kids.new.items items.new.items ≡ weave kids.old.items items.old.items }
+    ensures nodes { nodes_in kids.new.items + pool.new.nodes
+        ≡ nodes_in kids.old.items + pool.old.nodes }
+    ensures inner { inner_over kids.new.items + pool.new.inner
         ≡ inner_over kids.old.items + pool.old.inner }
     ensures takes { TakesAtMost 1 pool.old pool.new }
-    ensures takes_inner { 0 < vec_len kids.old → TakesAtMost 0 pool.old pool.new }
+    ensures takes_inner { 0 < level_of kids.old.items → TakesAtMost 0 pool.old pool.new }
     ensures room { pool.new.room ≡ pool.old.room }
     ensures node { IsNode kids.new.items items.new.items (vec_capacity kids.new)
         (vec_capacity items.new) }
-    ensures whole { IfNone result ((kids.new.items ≡ kids.old.items)
-        × (items.new.items ≡ items.old.items)) }
-    ensures split { IfSome result (λ right.
-        IsKid (depth_over kids.old.items) (subtree kids.new.items items.new.items)
-        × IsKid (depth_over kids.old.items) right.1) }
+    ensures depth { depth_over kids.new.items ≡ depth_over kids.old.items }
+    ensures own { vec_len items.new ≡ vec_len items.old + 1 }
 {
-    if items.len() > 31 {
-        let mut right = pool.take();
-        move_tail(items, 17, &mut right.items);
-        right.kids = split_kids(kids, pool);
-        let middle = take_last(items);
-        Some((middle, right))
-    } else {
-        None
-    }
+    let kid = &mut kids[at];
+    let (middle, right) = split(kid, pool);
+    insert_within(items, at, middle);
+    insert_within(kids, at + 1, right);
 }
 
 // Moves the kids behind the first 17 into a vector of their own.

@@ -40,7 +40,7 @@ invariant_of-left c =
     (record {
       kids = k.level;
       shape = k.shape;
-      few = k.kid.high;
+      few = omega (arith, k.kid.high);
       kid_room = λ some. omega (
         arith,
         c.left.invariant.kid_room

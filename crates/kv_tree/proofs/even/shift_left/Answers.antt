@@ -88,7 +88,7 @@ invariant_of-right c =
     record {
       kids = k.new_level2;
       shape = k.new_shape2;
-      few = k.right.high;
+      few = omega (arith, k.right.high);
       kid_room = λ some. omega (
         arith,
         c.right.invariant.kid_room
@@ -105,7 +105,7 @@ invariant_of-left c =
     record {
       kids = k.new_level1;
       shape = k.new_shape1;
-      few = k.left.high;
+      few = omega (arith, k.left.high);
       kid_room = λ some. omega (
         arith,
         c.left.invariant.kid_room

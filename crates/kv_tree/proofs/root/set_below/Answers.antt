@@ -1,29 +1,25 @@
-use Rattle.std.proofs.Common.{arith}
-use Rattle.kv_tree.specs.Subtree.{new_keys}
-use Rattle.kv_tree.proofs.SetLemmas.{top_inner, top_left, one_key_more}
+use Rattle.std.proofs.Common.{◌≡◌, sym, ◌∙◌, arith}
+use Rattle.kv_tree.proofs.SetLemmas.{IsOverfull, top_nodes, top_inner, one_key_more}
 use Rattle.kv_tree.proofs.root.set_below.Goals as goal
 
--- a node and room for kids are left for a new root
-pub take-top-requires : goal.take-top-requires
-take-top-requires c =
-    let split = rw c.in-Some.is at c.set-found.ensures.split in
-    let nodes = rw c.in-Some.is at c.set-found.ensures.nodes in
-    let pairs = rw c.in-Some.is at c.set-found.ensures.pairs in
-    let inner = rw c.in-Some.is at c.set-found.ensures.inner in
-    top_left _ _ c.args.root.now c.set-found.new.self _ c.in-Some.right c.args.root.now.depth
-    (new_keys c.set-found.result.0) c.args.pool.now c.set-found.new.pool
-    split.0 split.1 pairs nodes c.set-found.ensures.takes (one_key_more c.set-found.result.0)
-    (top_inner c.args.root.now c.set-found.new.self c.in-Some.right _ c.args.pool.now
-    c.set-found.new.pool split.0 split.1 nodes inner c.requires.wide) c.requires.enough
+-- the root has one pair too many
+overfull : (c : goal.After-raise-arg-then-own-gt31-1)
+    → IsOverfull c.args.item.0 c.args.item.1 c.args.root.now c.set-found.new.self c.args.pool.now
+    c.set-found.new.pool
+overfull c = record {
+  pairs = c.set-found.ensures.pairs;
+  filled = c.own.ensures.filled;
+  many = omega (arith, c.own.ensures.value, c.if-own-gt31.true);
+  nodes = c.set-found.ensures.nodes;
+  inner = c.set-found.ensures.inner;
+  takes = omega (arith, c.set-found.ensures.takes, one_key_more c.set-found.result);
+  leaf = λ none. c.set-found.ensures.leaf (sym c.set-found.ensures.depth ∙ none);
+}
 
-pub take_kids-kids-requires : goal.take_kids-kids-requires
-take_kids-kids-requires c =
-    let split = rw c.in-Some.is at c.set-found.ensures.split in
-    let nodes = rw c.in-Some.is at c.set-found.ensures.nodes in
-    let inner = rw c.in-Some.is at c.set-found.ensures.inner in
-    omega (
-      arith,
-      top_inner c.args.root.now c.set-found.new.self c.in-Some.right _ c.args.pool.now
-          c.set-found.new.pool split.0 split.1 nodes inner c.requires.wide,
-      c.take-top.ensures.inner,
-    )
+pub raise-requires-clause-spare : goal.raise-requires-clause-spare
+raise-requires-clause-spare c = top_nodes (overfull c) c.requires.wide c.requires.enough
+
+pub raise-requires-clause-inner : goal.raise-requires-clause-inner
+raise-requires-clause-inner c =
+    top_inner (overfull c) c.requires.wide (top_nodes (overfull c) c.requires.wide
+    c.requires.enough)

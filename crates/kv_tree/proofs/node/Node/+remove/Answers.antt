@@ -2,7 +2,7 @@ use Rattle.std.proofs.Common.{◌<◌, ◌≤◌, length, set, Some, sym}
 use Rattle.std.proofs.Common.{ap, ◌∙◌, arith}
 use Rattle.std.proofs.lemmas.Cmp.{nat_list_cmp_total}
 use Rattle.kv_index.proofs.PlacesLemmas.{at-lt, gap-le}
-use Rattle.kv_tree.specs.Subtree.{Pair, weave}
+use Rattle.kv_tree.specs.Subtree.{Pair, Subtree, weave}
 use Rattle.kv_tree.proofs.WeaveLemmas.{own_rising, at_kid, at_item, find_item, find_focus}
 use Rattle.kv_tree.proofs.WeaveLemmas.{find_leaf}
 use Rattle.kv_tree.proofs.RemoveLemmas.{ok_kid, err_kid, IsShrunk, shrunk_level}
@@ -24,6 +24,15 @@ take_greatest-greatest-requires-clause-some t c =
     c.self.inside.kids.items c.self.inside.items.items c.in-Ok.at _ _ c.self.view_is
     c.self.invariant place some c.index_mut-kid.ensures.value in
     omega (arith, k.fits.low)
+
+pub take_greatest-greatest-requires-clause-few : goal.take_greatest-greatest-requires-clause-few
+take_greatest-greatest-requires-clause-few t c =
+    let place = rw c.deref.ensures.value at c.in-Ok.ensures.found in
+    let some : 0 < length c.self.inside.kids.items = omega (arith, c.self.inside.kids.ok.0) in
+    let k = ok_kid c.args.key.now c.args.self.now c.index_mut-kid.result.now
+    c.self.inside.kids.items c.self.inside.items.items c.in-Ok.at _ _ c.self.view_is
+    c.self.invariant place some c.index_mut-kid.ensures.value in
+    k.fits.high
 
 pub take_greatest-greatest-requires-clause-room : goal.take_greatest-greatest-requires-clause-room
 take_greatest-greatest-requires-clause-room t c =
@@ -150,6 +159,7 @@ returns-then-len-gt0-clause-kid t c kid enough =
     let h : IsShrunk c.index_mut-kid.result.now c.take_greatest-greatest.new.self =
     record { depth = e.depth; fewer = e.fewer; own = e.own; kid = e.kid } in
     still_kid _ _ _ _ _ c.refill.ensures.node (c.refill.ensures.depth ∙ shrunk_depth k _ h) enough
+    (omega (arith, c.requires.few, ap (λ (s : Subtree). s.own) c.self.view_is))
 
 -- a leaf's own item goes
 pub returns-else-len-gt0-clause-value : goal.returns-else-len-gt0-clause-value
@@ -181,7 +191,7 @@ remove-found-requires t c =
         r.rising,
         (
           c.requires.number,
-          ((λ h. omega (arith, k.fits.low)), omega (arith, k.nodes)),
+          ((λ h. omega (arith, k.fits.low)), (k.fits.high, omega (arith, k.nodes))),
         ),
       ),
     )
@@ -285,7 +295,7 @@ returns-then-len-gt0-2-clause-kid t c kid enough =
     let h : IsShrunk c.index_mut-kid-then-len-gt0-2.result.now c.remove-found.new.self =
     record { depth = e.depth; fewer = e.fewer; own = e.own; kid = e.kid } in
     still_kid _ _ _ _ _ c.refill-then-len-gt0-2.ensures.node
-    (c.refill-then-len-gt0-2.ensures.depth ∙ shrunk_depth k _ h) enough
+    (c.refill-then-len-gt0-2.ensures.depth ∙ shrunk_depth k _ h) enough (omega (arith, c.requires.few, ap (λ (s : Subtree). s.own) c.self.view_is))
 
 -- no pair of a leaf has the key
 pub returns-else-len-gt0-2-clause-value : goal.returns-else-len-gt0-2-clause-value

@@ -1,6 +1,6 @@
 use Rattle.std.proofs.Common.{◌-◌, List, [], ◌∷◌, ◌++◌, sym, ap, ◌∙◌}
 use Rattle.std.proofs.Common.{arith}
-use Rattle.kv_tree.specs.Subtree.{Pair}
+use Rattle.kv_tree.specs.Subtree.{Pair, Subtree}
 use Rattle.kv_tree.proofs.RemoveLemmas.{IsKidOf, kid_of, IsShrunk, shrunk_level, shrunk_nodes}
 use Rattle.kv_tree.proofs.RemoveLemmas.{shrunk_inner, shrunk_depth, shrunk_last, still_kid}
 use Rattle.kv_tree.proofs.node.Node.+take_greatest.Goals as goal
@@ -10,7 +10,7 @@ take_greatest-greatest-requires t c =
     let k = kid_of c.args.self.now c.index_mut-kid.result.now c.self.inside.kids.items
     c.self.inside.items.items (c.len-count.result - 1) _ _ c.self.view_is c.self.invariant
     c.index_mut-kid.ensures.value (omega (arith, c.self.inside.kids.ok.0)) in
-    (omega (arith, k.falls), (omega (arith, k.fits.low), omega (arith, k.nodes)))
+    (omega (arith, k.falls), (omega (arith, k.fits.low), (k.fits.high, omega (arith, k.nodes))))
 
 of_kid : (t : _) (c : goal.After-refill-arg-then-count-gt0-2-1 t)
     → IsKidOf c.args.self.now c.index_mut-kid.result.now c.self.inside.kids.items
@@ -77,4 +77,4 @@ returns-then-count-gt0-clause-inner t c =
 pub returns-then-count-gt0-clause-kid : goal.returns-then-count-gt0-clause-kid
 returns-then-count-gt0-clause-kid t c kid enough =
     still_kid _ _ _ _ _ c.refill.ensures.node (c.refill.ensures.depth
-    ∙ shrunk_depth (of_kid t c.before) _ (shrunk t c.before)) enough
+    ∙ shrunk_depth (of_kid t c.before) _ (shrunk t c.before)) enough (omega (arith, c.requires.few, ap (λ (s : Subtree). s.own) c.self.view_is))

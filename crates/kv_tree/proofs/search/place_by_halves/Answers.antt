@@ -3,7 +3,7 @@ use Rattle.std.specs.Ordering.{nat_cmp}
 use Rattle.std.specs.Cmp.Lexicographic.{slice_cmp}
 use Rattle.std.proofs.lemmas.Fn.{always_returns_same}
 use Rattle.kv_index.proofs.EntriesLemmas.{placed}
-use Rattle.kv_tree.proofs.search.search.Goals as goal
+use Rattle.kv_tree.proofs.search.place_by_halves.Goals as goal
 
 -- the closure compares an item's key with the one that is searched for
 pub returns : goal.returns

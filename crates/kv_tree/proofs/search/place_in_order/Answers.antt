@@ -1,0 +1,5 @@
+use Rattle.kv_tree.proofs.search.place_in_order.Goals as goal
+
+pub place_behind-requires-clause-past : goal.place_behind-requires-clause-past
+place_behind-requires-clause-past c =
+    c.count_in_order-at.ensures.past c.args.key.now c.requires.number

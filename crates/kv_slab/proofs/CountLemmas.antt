@@ -31,10 +31,10 @@ use Rattle.kv_slab.proofs.SettleLemmas.{set-moved, remove-moved}
 use Rattle.kv_slab.proofs.StepLemmas.{one_key as key_or_not, get_some}
 use Rattle.std.proofs.lemmas.Option.{slice_get_within}
 
-abbrev order : List ℕ → List ℕ → Ordering
+abbrev pub order : List ℕ → List ℕ → Ordering
 order = slice_cmp nat_cmp
 
-abbrev Pairs : Type 0
+abbrev pub Pairs : Type 0
 Pairs = List (List ℕ × Entry)
 
 -- whether the entry is of the class, as a number
@@ -42,7 +42,7 @@ abbrev pub weight : ℕ → Option Entry → ℕ
 weight c None = 0
 weight c (Some e) = if e.place.class == c then 1 else 0
 
-abbrev count : ℕ → Pairs → ℕ
+abbrev pub count : ℕ → Pairs → ℕ
 count c pairs = count_by (λ pair. pair.1.place.class == c) pairs
 
 left_of : (a b : Bool) → T (a && b) → T a
@@ -87,7 +87,7 @@ find_none q (e ∷ es) h = ap (λ r. cond (is_eq r) (Some e.1) (find order q es)
     (is_less _ (left_of _ _ h)) ∙ find_none q es (right_of _ _ h)
 
 -- one pair more
-count-cons : (c : ℕ) (x : List ℕ × Entry) (xs : Pairs) → count c (x ∷ xs)
+pub count-cons : (c : ℕ) (x : List ℕ × Entry) (xs : Pairs) → count c (x ∷ xs)
     ≡ weight c (Some x.1) + count c xs
 count-cons c x xs = sum_by-cons (λ (pair : List ℕ × Entry). if pair.1.place.class == c then 1 else
     0) x xs
@@ -236,7 +236,7 @@ items-settled m (mv ∷ ms) c apart =
     omega arith
 
 -- a test as a number
-abbrev one_if : Bool → ℕ
+abbrev pub one_if : Bool → ℕ
 one_if b = if b then 1 else 0
 
 -- one change: what its key had and a new slot, and what it has now and the slot that is left

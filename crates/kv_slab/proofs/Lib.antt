@@ -25,3 +25,7 @@ pub mod KeptLemmas
 pub mod OrderLemmas
 pub mod FaultLemmas
 pub mod FitLemmas
+pub mod BatchLemmas
+pub mod PlacesLemmas
+pub mod ClassSums
+pub mod SpaceLemmas

@@ -223,7 +223,7 @@ over_there image f p (x ∷ xs) (suc i) d apart has =
       here = has.here;
     }))
 
-missing_set : (f p : ℕ) (xs : List Page) (i : ℕ) (new : Page)
+pub missing_set : (f p : ℕ) (xs : List Page) (i : ℕ) (new : Page)
     → ((d : Page) → is_at f p new ≡ is_at f p (get_or xs i d)) → Missing f p xs
     → Missing f p (set xs i new)
 missing_set f p [] i new same m = m
@@ -291,7 +291,7 @@ over_push_set image f p xs new missing e d =
     ∙ sym (with_page-other (over image xs) f p new.content g q far))
     (one_place g q f p))
 
-missing_push : (f p : ℕ) (xs : List Page) (new : Page) → Missing f p xs → is_at f p new ≡ false
+pub missing_push : (f p : ℕ) (xs : List Page) (new : Page) → Missing f p xs → is_at f p new ≡ false
     → Missing f p (xs ++ new ∷ [])
 missing_push f p [] new m e = (e, tt)
 missing_push f p (x ∷ xs) new m e = (m.0, missing_push f p xs new m.1 e)
@@ -357,7 +357,7 @@ pub content_at : (image : Image) (f p : ℕ) (xs : List Page) (i : ℕ) (d : Pag
     → HasAt xs i f p → (slice_index_or xs i d).content ≡ over image xs f p
 content_at image f p xs i d apart has = over_there image f p xs i d apart has
 
-same_place : (ys : List Page) (i : ℕ) (was new : Page) → i < length ys → was ≡ get_or ys i was
+pub same_place : (ys : List Page) (i : ℕ) (was new : Page) → i < length ys → was ≡ get_or ys i was
     → new.file ≡ was.file → new.page ≡ was.page → (d : Page) → (new.file ≡ (get_or ys i d).file)
     × (new.page ≡ (get_or ys i d).page)
 same_place [] i was new below is e d other = absurd (omega arith)
@@ -369,7 +369,7 @@ same_place (y ∷ ys) zero was new below is e d other = (
 same_place (y ∷ ys) (suc i) was new below is e d other = same_place ys i was new (omega arith) is e
     d other
 
-at_get : (f p : ℕ) (x : Page) → is_at f p x ≡ true → (x.file ≡ f) × (x.page ≡ p)
+pub at_get : (f p : ℕ) (x : Page) → is_at f p x ≡ true → (x.file ≡ f) × (x.page ≡ p)
 at_get f p x e =
     ⊎_elim
     (λ (t : (is_at f p x ≡ true) × (x.file ≡ f) × (x.page ≡ p)). (t.1, t.2))

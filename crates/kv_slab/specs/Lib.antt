@@ -5,6 +5,7 @@ pub mod Pages
 pub mod Fault
 pub mod Moves
 pub mod Rooms
+pub mod Batches
 pub mod Assigned
 pub mod Settled
 pub mod Memory

@@ -1,6 +1,6 @@
 -- What a store keeps in memory beside its index: the free slots and the end of each class.
-use Rattle.std.specs.Prelude.{◌≡◌, ℕ, ◌+◌, ◌-◌, ◌<◌, ◌==◌, List, [], ◌∷◌, Option, Some, count_by}
-use Rattle.std.specs.Prelude.{length, if◌then◌else◌}
+use Rattle.std.specs.Prelude.{◌≡◌, ℕ, ◌+◌, ◌-◌, ◌^◌, ◌<◌, ◌≤◌, ◌==◌, List, [], ◌∷◌, Option, Some}
+use Rattle.std.specs.Prelude.{count_by, length, if◌then◌else◌}
 use Rattle.std.specs.List.{slice_get}
 use Rattle.std.specs.FinMap as finite
 use Rattle.kv_free.specs.FreeList.{Tail}
@@ -43,6 +43,26 @@ pub record HasLength (taken left : ℕ) (old new : Room) : Type 0 where
 abbrev pub HaveLengths : (ℕ → ℕ) → (ℕ → ℕ) → List Room → List Room → Type 0
 HaveLengths taken left old new = (class : ℕ) (room now : Room) → slice_get old class ≡ Some room
     → slice_get new class ≡ Some now → HasLength (taken class) (left class) room now
+
+-- where a slot is taken in a class, one is free there, or the slab can grow by one
+abbrev pub HasSpace : Option ℕ → List Room → Type 0
+HasSpace taken kept = (class : ℕ) (room : Room) → taken ≡ Some class
+    → slice_get kept class ≡ Some room → room.stack.count ≡ 0 → room.end < 2 ^ 24
+
+-- in each class so many slots can be taken
+abbrev pub HaveSpace : (ℕ → ℕ) → List Room → Type 0
+HaveSpace taken kept = (class : ℕ) (room : Room) → 1 ≤ class → class ≤ 11
+    → slice_get kept class ≡ Some room → room.end + taken class ≤ room.stack.count + 2 ^ 24
+
+-- where a place is left, its class's list can grow by one
+abbrev pub HasGap : Option Place → List Room → Type 0
+HasGap left kept = (place : Place) (room : Room) → left ≡ Some place
+    → slice_get kept place.class ≡ Some room → room.stack.count < 2 ^ 24
+
+-- each list can grow by so many
+abbrev pub HaveGaps : (ℕ → ℕ) → List Room → Type 0
+HaveGaps left kept = (class : ℕ) (room : Room) → slice_get kept class ≡ Some room
+    → room.stack.count + left class ≤ 2 ^ 24
 
 -- whether a new slot is taken in the class, as a number
 abbrev pub new_in : Option ℕ → ℕ → ℕ

@@ -1,4 +1,4 @@
-ghost use Rattle.std.specs.Prelude.{◌≡◌, ℕ, ◌+◌, ◌*◌, ◌<◌, ◌≤◌, List, Option, None, Some, IsTrue};
+ghost use Rattle.std.specs.Prelude.{◌≡◌, ℕ, ◌<◌, ◌≤◌, Option, None, Some, IsTrue};
 ghost use Rattle.std.specs.Prelude.{IfOk};
 ghost use Rattle.std.specs.Prelude.{length, IfSome, OnOk};
 ghost use Rattle.std.specs.FinMap as finite;
@@ -14,7 +14,7 @@ ghost use Rattle.kv_slab.specs.Fault.{StepCounted};
 ghost use Rattle.kv_slab.specs.Rooms.{Rooms, AreRooms, AreLinked, ArePlaced, left_by, left_for};
 ghost use Rattle.kv_slab.specs.Rooms.{item_class, slot_class, new_class, needed};
 ghost use Rattle.kv_slab.specs.Assigned.{GoesTo, Assigned, AreEnds, TargetFor};
-ghost use Rattle.kv_slab.specs.Memory.{HaveLengths, new_in};
+ghost use Rattle.kv_slab.specs.Memory.{HasSpace, HaveLengths, HaveSpace, new_in};
 ghost use Rattle.kv_slab.specs.declared.change.Change.{Change as Changed};
 ghost use Rattle.kv_slab.specs.declared.moves.Move.{Move as Moved};
 
@@ -73,6 +73,7 @@ fn target_for<D: Disk>(
     requires class { IfSome class (λ c. (1 ≤ c) × (c ≤ 11)) }
     requires from { IfSome from (λ entry. IsSlabPlace entry.place) }
     requires ends { AreEnds rooms.old.items }
+    requires space { HasSpace (slot_class from class) rooms.old.items }
     ensures reads { ReadsAtMost ⟦<D as Disk>⟧ 1 disk.old.disk disk.new.disk }
     ensures none { class ≡ None → IfOk result (λ place. place ≡ None) }
     ensures some { (c : ℕ) → class ≡ Some c → IfOk result (λ target. (place : Placed)
@@ -107,6 +108,8 @@ fn assign_one<D: Disk, I: Index>(
     requires places { ArePlaces (finite.get (I.entries index.now)) }
     requires fits { FitsClass change.now }
     requires ends { AreEnds rooms.old.items }
+    requires space { HasSpace (new_class (finite.get (I.entries index.now)) change.now)
+        rooms.old.items }
     ensures reads { ReadsAtMost ⟦<D as Disk>⟧ 1 disk.old.disk disk.new.disk }
     ensures is { IfOk result (λ m. IsMove (finite.get (I.entries index.now)) change.now m) }
     ensures left { IfOk result (λ m. m.left ≡ left_by (finite.get (I.entries index.now))
@@ -144,6 +147,8 @@ pub fn assign<D: Disk, I: Index>(
     requires fits { AllFit changes.now }
     requires distinct { AreDistinct changes.now }
     requires ends { AreEnds rooms.old.items }
+    requires space { HaveSpace (needed (finite.get (I.entries index.now)) changes.now)
+        rooms.old.items }
     ensures reads { ReadsAtMost ⟦<D as Disk>⟧ (length changes.now) disk.old.disk disk.new.disk }
     ensures assigned { IsTrue D.tells → IfOk result (λ moves. (start : Rooms)
         → AreRooms rooms.old.items start → ArePlaced (finite.get (I.entries index.now)) start

@@ -14,9 +14,8 @@ ghost use Rattle.kv_slab.specs.View.{HasItems, IsAnswer, IsNextItem, IsEntryItem
 ghost use Rattle.kv_slab.specs.View.{HasClass, map_of};
 
 use crate::change::Item;
-use crate::edits::place_spot;
 use crate::fault::StepFault;
-use crate::read::read_page;
+use crate::read::{place_spot, read_page};
 use kv_base::{Bytes, Place};
 use kv_cache::Cached;
 use kv_disk::Disk;

@@ -1,4 +1,4 @@
-ghost use Rattle.std.specs.Prelude.{◌≡◌, ℕ, ◌+◌, ◌*◌, ◌^◌, ◌<◌, ◌≤◌, List, Option, Some, OnOk};
+ghost use Rattle.std.specs.Prelude.{◌≡◌, ℕ, ◌+◌, ◌*◌, ◌^◌, ◌<◌, ◌≤◌, Option, Some, OnOk};
 ghost use Rattle.std.specs.Prelude.{IfOk, IfSome};
 ghost use Rattle.std.specs.Prelude.{IsTrue, length};
 ghost use Rattle.std.specs.Option.{ForSome};
@@ -18,10 +18,11 @@ ghost use Rattle.kv_disk.specs.Steps.{ReadsAtMost};
 ghost use Rattle.kv_slab.specs.Fault.{StepCounted};
 
 use crate::change::Change;
-use crate::edits::{write_item, write_tombstone};
 use crate::fault::StepFault;
 use crate::moves::Move;
-use crate::page::Page;
+use crate::round::Round;
+use crate::vacate::write_tombstone;
+use crate::write::write_item;
 use kv_base::Place;
 use kv_cache::Cached;
 use kv_disk::Disk;
@@ -31,26 +32,26 @@ use std::alloc::Global;
 fn first_one<D: Disk>(
     alloc: Global,
     disk: &mut Cached<D>,
-    pages: &mut Vec<Page>,
+    round: &mut Round,
     change: &Change,
     to: Option<Place>,
 ) -> Result<(), StepFault>
     requires hold { CanHoldAt change.now to }
-    requires pages { ArePages pages.old.items }
+    requires pages { ArePages round.old }
     ensures reads { ReadsAtMost ⟦<D as Disk>⟧ 1 disk.old.disk disk.new.disk }
     ensures written { IsTrue D.tells → OnOk result (IsWritten change.now (to_of to change.now.value)
-        (slot_at all_classes (over (D.seen disk.old.disk) pages.old.items))
-        (slot_at all_classes (over (D.seen disk.old.disk) pages.new.items))) }
+        (slot_at all_classes (over (D.seen disk.old.disk) round.old))
+        (slot_at all_classes (over (D.seen disk.old.disk) round.new))) }
     ensures still { IsTrue D.tells → OnOk result (StillBeside to
-        (over (D.seen disk.old.disk) pages.old.items) (over (D.seen disk.old.disk)
-        pages.new.items)) }
+        (over (D.seen disk.old.disk) round.old) (over (D.seen disk.old.disk)
+        round.new)) }
     ensures whole { IsTrue D.tells → OnOk result (IsWhole change.now (to_of to change.now.value)
-        (over (D.seen disk.old.disk) pages.new.items)) }
+        (over (D.seen disk.old.disk) round.new)) }
     ensures floor { IsTrue D.tells → OnOk result ((bound : ℕ) → change.now.stamp ≤ bound
-        → HasFloorUpTo bound (over (D.seen disk.old.disk) pages.old.items)
-        → HasFloorUpTo bound (over (D.seen disk.old.disk) pages.new.items)) }
-    ensures pages { ArePages pages.new.items }
-    ensures count { length pages.new.items ≤ length pages.old.items + 16 }
+        → HasFloorUpTo bound (over (D.seen disk.old.disk) round.old)
+        → HasFloorUpTo bound (over (D.seen disk.old.disk) round.new)) }
+    ensures pages { ArePages round.new }
+    ensures count { length round.new ≤ length round.old + 16 }
     ensures cause { StepCounted (D.faults disk.old.disk) (D.faults disk.new.disk) result }
 {
     match to {
@@ -58,7 +59,7 @@ fn first_one<D: Disk>(
             Some(value) => write_item(
                 alloc,
                 disk,
-                pages,
+                round,
                 place,
                 change.stamp,
                 change.key.as_slice(),
@@ -76,66 +77,66 @@ pub fn plan_first<D: Disk>(
     disk: &mut Cached<D>,
     changes: &[Change],
     moves: &[Move],
-) -> Result<Vec<Page>, StepFault>
+) -> Result<Round, StepFault>
     requires count { length moves.now ≡ length changes.now }
     requires hold { (i : ℕ) (c : Changed) (m : Moved) → IsPair changes.now moves.now i c m
         → CanHoldAt c m.to }
     ensures reads { ReadsAtMost ⟦<D as Disk>⟧ (length changes.now) disk.old.disk disk.new.disk }
-    ensures first { IsTrue D.tells → TargetsApart moves.now → IfOk result (λ pages.
+    ensures first { IsTrue D.tells → TargetsApart moves.now → IfOk result (λ round.
         FirstSoFar changes.now moves.now (length changes.now)
         (slot_at all_classes (D.seen disk.old.disk))
-        (slot_at all_classes (over (D.seen disk.old.disk) pages.items))) }
-    ensures still { IsTrue D.tells → IfOk result (λ pages.
-        StillFirst moves.now (D.seen disk.old.disk) (over (D.seen disk.old.disk) pages.items)) }
-    ensures whole { IsTrue D.tells → TargetsApart moves.now → IfOk result (λ pages.
+        (slot_at all_classes (over (D.seen disk.old.disk) round))) }
+    ensures still { IsTrue D.tells → IfOk result (λ round.
+        StillFirst moves.now (D.seen disk.old.disk) (over (D.seen disk.old.disk) round)) }
+    ensures whole { IsTrue D.tells → TargetsApart moves.now → IfOk result (λ round.
         AreWhole changes.now moves.now (length changes.now)
-        (over (D.seen disk.old.disk) pages.items)) }
-    ensures floor { IsTrue D.tells → IfOk result (λ pages. (bound : ℕ)
+        (over (D.seen disk.old.disk) round)) }
+    ensures floor { IsTrue D.tells → IfOk result (λ round. (bound : ℕ)
         → AreUpTo bound changes.now → HasFloorUpTo bound (D.seen disk.old.disk)
-        → HasFloorUpTo bound (over (D.seen disk.old.disk) pages.items)) }
-    ensures pages { IfOk result (λ pages. ArePages pages.items) }
-    ensures count { IfOk result (λ pages. length pages.items ≤ 16 * length changes.now) }
+        → HasFloorUpTo bound (over (D.seen disk.old.disk) round)) }
+    ensures pages { IfOk result (λ round. ArePages round) }
+    ensures count { IfOk result (λ round. length round ≤ 16 * length changes.now) }
     ensures cause { StepCounted (D.faults disk.old.disk) (D.faults disk.new.disk) result }
 {
-    let mut pages = Vec::new(alloc);
+    let mut round = Round::new(alloc);
     for i in 0..changes.len() {
-        first_one(alloc, disk, &mut pages, &changes[i], moves[i].to)?;
+        first_one(alloc, disk, &mut round, &changes[i], moves[i].to)?;
     }
-    Ok(pages)
+    Ok(round)
 }
 
 /// The tombstone of one place that is left, if one is.
 fn second_one<D: Disk>(
     disk: &mut Cached<D>,
-    pages: &mut Vec<Page>,
-    first: &[Page],
+    round: &mut Round,
+    first: &Round,
     stamp: u64,
     left: Option<Place>,
     link: Option<u32>,
 ) -> Result<(), StepFault>
     requires place { IfSome left (λ place. IsSlabPlace place) }
     requires link { ForSome link (λ other. other < 2 ^ 24) }
-    requires pages { ArePages pages.old.items }
+    requires pages { ArePages round.old }
     requires first { ArePages first.now }
     ensures reads { ReadsAtMost ⟦<D as Disk>⟧ 1 disk.old.disk disk.new.disk }
     ensures vacated { IsTrue D.tells → OnOk result (IsVacated stamp left link
-        (slot_at all_classes (over (over (D.seen disk.old.disk) first.now) pages.old.items))
-        (slot_at all_classes (over (over (D.seen disk.old.disk) first.now) pages.new.items))) }
+        (slot_at all_classes (over (over (D.seen disk.old.disk) first.now) round.old))
+        (slot_at all_classes (over (over (D.seen disk.old.disk) first.now) round.new))) }
     ensures still { IsTrue D.tells → OnOk result (StillBeside left
-        (over (over (D.seen disk.old.disk) first.now) pages.old.items)
-        (over (over (D.seen disk.old.disk) first.now) pages.new.items)) }
+        (over (over (D.seen disk.old.disk) first.now) round.old)
+        (over (over (D.seen disk.old.disk) first.now) round.new)) }
     ensures later { IsTrue D.tells → OnOk result (StillLater
-        (over (over (D.seen disk.old.disk) first.now) pages.old.items)
-        (over (over (D.seen disk.old.disk) first.now) pages.new.items)) }
+        (over (over (D.seen disk.old.disk) first.now) round.old)
+        (over (over (D.seen disk.old.disk) first.now) round.new)) }
     ensures floor { IsTrue D.tells → OnOk result ((bound : ℕ) → stamp ≤ bound
-        → HasFloorUpTo bound (over (over (D.seen disk.old.disk) first.now) pages.old.items)
-        → HasFloorUpTo bound (over (over (D.seen disk.old.disk) first.now) pages.new.items)) }
-    ensures pages { ArePages pages.new.items }
-    ensures count { length pages.new.items ≤ length pages.old.items + 1 }
+        → HasFloorUpTo bound (over (over (D.seen disk.old.disk) first.now) round.old)
+        → HasFloorUpTo bound (over (over (D.seen disk.old.disk) first.now) round.new)) }
+    ensures pages { ArePages round.new }
+    ensures count { length round.new ≤ length round.old + 1 }
     ensures cause { StepCounted (D.faults disk.old.disk) (D.faults disk.new.disk) result }
 {
     match left {
-        Some(place) => write_tombstone(disk, pages, first, place, stamp, link),
+        Some(place) => write_tombstone(disk, round, first, place, stamp, link),
         None => Ok(()),
     }
 }
@@ -144,10 +145,10 @@ fn second_one<D: Disk>(
 pub fn plan_second<D: Disk>(
     alloc: Global,
     disk: &mut Cached<D>,
-    first: &[Page],
+    first: &Round,
     moves: &[Move],
     links: &[Option<u32>],
-) -> Result<Vec<Page>, StepFault>
+) -> Result<Round, StepFault>
     requires count { length links.now ≡ length moves.now }
     requires places { (i : ℕ) (m : Moved) → slice_get moves.now i ≡ Some m
         → IfSome m.left (λ place. IsSlabPlace place) }
@@ -155,27 +156,27 @@ pub fn plan_second<D: Disk>(
         → ForSome link (λ other. other < 2 ^ 24) }
     requires first { ArePages first.now }
     ensures reads { ReadsAtMost ⟦<D as Disk>⟧ (length moves.now) disk.old.disk disk.new.disk }
-    ensures second { IsTrue D.tells → LeftApart moves.now → IfOk result (λ pages.
+    ensures second { IsTrue D.tells → LeftApart moves.now → IfOk result (λ round.
         SecondSoFar moves.now links.now (length moves.now)
         (slot_at all_classes (over (D.seen disk.old.disk) first.now))
-        (slot_at all_classes (over (over (D.seen disk.old.disk) first.now) pages.items))) }
-    ensures still { IsTrue D.tells → IfOk result (λ pages.
+        (slot_at all_classes (over (over (D.seen disk.old.disk) first.now) round))) }
+    ensures still { IsTrue D.tells → IfOk result (λ round.
         StillSecond moves.now (over (D.seen disk.old.disk) first.now)
-        (over (over (D.seen disk.old.disk) first.now) pages.items)) }
-    ensures later { IsTrue D.tells → IfOk result (λ pages. StillLater
+        (over (over (D.seen disk.old.disk) first.now) round)) }
+    ensures later { IsTrue D.tells → IfOk result (λ round. StillLater
         (over (D.seen disk.old.disk) first.now)
-        (over (over (D.seen disk.old.disk) first.now) pages.items)) }
-    ensures floor { IsTrue D.tells → IfOk result (λ pages. (bound : ℕ)
+        (over (over (D.seen disk.old.disk) first.now) round)) }
+    ensures floor { IsTrue D.tells → IfOk result (λ round. (bound : ℕ)
         → StampsUpTo bound moves.now → HasFloorUpTo bound (over (D.seen disk.old.disk) first.now)
-        → HasFloorUpTo bound (over (over (D.seen disk.old.disk) first.now) pages.items)) }
-    ensures pages { IfOk result (λ pages. ArePages pages.items) }
-    ensures count { IfOk result (λ pages. length pages.items ≤ length moves.now) }
+        → HasFloorUpTo bound (over (over (D.seen disk.old.disk) first.now) round)) }
+    ensures pages { IfOk result (λ round. ArePages round) }
+    ensures count { IfOk result (λ round. length round ≤ length moves.now) }
     ensures cause { StepCounted (D.faults disk.old.disk) (D.faults disk.new.disk) result }
 {
-    let mut pages = Vec::new(alloc);
+    let mut round = Round::new(alloc);
     for i in 0..moves.len() {
         let step = &moves[i];
-        second_one(disk, &mut pages, first, step.stamp, step.left, links[i])?;
+        second_one(disk, &mut round, first, step.stamp, step.left, links[i])?;
     }
-    Ok(pages)
+    Ok(round)
 }

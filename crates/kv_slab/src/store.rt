@@ -1,5 +1,5 @@
-ghost use Rattle.std.specs.Prelude.{◌≡◌, ℕ, ◌+◌, ◌*◌, ◌<◌, ◌≤◌, ◌^◌, List, None, Some, IsTrue};
-ghost use Rattle.std.specs.Prelude.{IfOk, IfErr, OnOk};
+ghost use Rattle.std.specs.Prelude.{◌≡◌, ℕ, ◌+◌, ◌*◌, ◌<◌, ◌≤◌, ◌^◌, List, IsTrue};
+ghost use Rattle.std.specs.Prelude.{IfOk, OnOk};
 ghost use Rattle.std.specs.Prelude.{OnErr, length, []};
 ghost use Rattle.std.specs.FinMap as finite;
 ghost use Rattle.kv_base.specs.Fault.{HasCause, Counted};
@@ -8,7 +8,7 @@ ghost use Rattle.kv_model.specs.Layout.{all_classes};
 ghost use Rattle.kv_model.specs.Reading.{slot_at};
 ghost use Rattle.kv_slab.specs.declared.change.Change.{Change as Changed};
 ghost use Rattle.kv_slab.specs.Memory.{AreFilled, HaveLengths, rooms_of};
-ghost use Rattle.kv_slab.specs.Moves.{ArePlaces, AreDistinct, AllFit, AreAllMoves, AreUpTo};
+ghost use Rattle.kv_slab.specs.Moves.{ArePlaces, AreAllMoves, AreUpTo};
 ghost use Rattle.kv_slab.specs.Moves.{answer_after};
 ghost use Rattle.kv_slab.specs.Floor.{HasFloorUpTo};
 ghost use Rattle.kv_slab.specs.Settled.{HasEntryAfter};
@@ -18,7 +18,7 @@ ghost use Rattle.kv_slab.specs.Fault.{StepCounted};
 ghost use Rattle.kv_slab.specs.Rooms.{Rooms, AreRooms, ArePlaced, AreLinked, rooms_after, needed};
 ghost use Rattle.kv_slab.specs.Rooms.{left_slots};
 ghost use Rattle.kv_slab.specs.Assigned.{AreEnds};
-ghost use Rattle.kv_slab.specs.Plans.{IsPlanned, PlannedFor};
+ghost use Rattle.kv_slab.specs.Plans.{CanChange, IsPlanned, PlannedFor};
 ghost use Rattle.kv_slab.specs.View.{IsOpen, IsOfWorker, OldOrNewMap, map_of};
 ghost use Rattle.kv_slab.specs.View.{Stands};
 
@@ -39,20 +39,6 @@ use kv_free::Stacks;
 use kv_index::Index;
 use std::alloc::Global;
 
-/// The number of changes, if the index can take so many new keys.
-fn count_of<I: Index>(index: &I, count: usize) -> Result<u32, StepFault>
-    ensures ok { IfOk result (λ n. (n ≡ count)
-        × (finite.len (I.entries index.now) + count < 2 ^ 32)) }
-    ensures cause { IfErr result (λ fault. fault ≡ StepFault.NoMemory) }
-{
-    let most = u32::MAX - index.len();
-    if count <= most as usize {
-        Ok(count as u32)
-    } else {
-        Err(StepFault::NoMemory)
-    }
-}
-
 /// The plan of some changes: all reads are made and all memory is taken.
 pub fn make_plan<D: Disk, I: Index>(
     alloc: Global,
@@ -65,8 +51,10 @@ pub fn make_plan<D: Disk, I: Index>(
     requires places { ArePlaces (finite.get (I.entries index.old)) }
     requires sizes { (length stacks.now ≡ 12) × (length ends.now ≡ 12) }
     requires ends { AreEnds (rooms_of stacks.now ends.now) }
-    requires distinct { AreDistinct changes.now }
-    requires fit { AllFit changes.now }
+    requires filled { AreFilled (I.entries index.old) (rooms_of stacks.now ends.now) }
+    requires can { (limit : ℕ) × (worker : ℕ) × (workers : ℕ) × (limit ≤ 2 ^ 24)
+        × CanChange D.tells (D.seen disk.old.disk) (I.entries index.old) limit worker workers
+        changes.now }
     ensures moves { IfOk result (λ plan. AreAllMoves (finite.get (I.entries index.new)) changes.now
         plan.moves.items) }
     ensures spare { IfOk result (λ plan. length plan.moves.items ≤ I.spare index.new) }
@@ -96,13 +84,14 @@ pub fn make_plan<D: Disk, I: Index>(
     ensures entries { I.entries index.new ≡ I.entries index.old }
     ensures cause { StepCounted (D.faults disk.old.disk) (D.faults disk.new.disk) result }
 {
-    let count = count_of(index, changes.len())?;
-    index.reserve(count)?;
+    index.reserve(changes.len() as u32)?;
     let mut now = copy_rooms(alloc, stacks, ends)?;
     let moves = assign(alloc, disk, index, &mut now, changes)?;
     let links = leave(alloc, &mut now, &moves)?;
     let first = plan_first(alloc, disk, changes, &moves)?;
     let second = plan_second(alloc, disk, &first, &moves, &links)?;
+    let first = first.into_pages();
+    let second = second.into_pages();
     let first_order = order_of(alloc, &first)?;
     let second_order = order_of(alloc, &second)?;
     let (stacks, ends) = split_rooms(alloc, &now)?;

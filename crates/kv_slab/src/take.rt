@@ -1,6 +1,6 @@
 ghost use Rattle.std.specs.Prelude.{◌≡◌, ℕ, ◌+◌, ◌-◌, ◌^◌, ◌<◌, ◌≤◌, ◌↔◌, ◌⊎◌, ◌∷◌, Option, List};
 ghost use Rattle.std.specs.Prelude.{None, Some};
-ghost use Rattle.std.specs.Prelude.{IsTrue, IfOk, IfErr, IfSome, IsSome, OnOk, MatchOption, length};
+ghost use Rattle.std.specs.Prelude.{IsTrue, IfOk, IfSome, IsSome, OnOk, MatchOption};
 ghost use Rattle.std.specs.Prelude.{take, drop};
 ghost use Rattle.std.specs.List.{slice_get};
 ghost use Rattle.kv_model.specs.Layout.{all_classes, slot_size};
@@ -13,11 +13,10 @@ ghost use Rattle.kv_slab.specs.Fault.{StepCounted};
 ghost use Rattle.kv_slab.specs.Rooms.{Free, Rooms, IsRoom, AreRooms, AreLinked, link_at};
 ghost use Rattle.kv_slab.specs.Rooms.{slot_class};
 ghost use Rattle.kv_slab.specs.Assigned.{HasTaken, Takes, AreEnds};
-ghost use Rattle.kv_slab.specs.Memory.{HasLength, HaveLengths, new_in};
+ghost use Rattle.kv_slab.specs.Memory.{HasLength, HasSpace, HaveLengths, new_in};
 
-use crate::edits::place_spot;
 use crate::fault::StepFault;
-use crate::read::read_page;
+use crate::read::{place_spot, read_page};
 use crate::room::Room;
 use kv_base::Place;
 use kv_cache::Cached;
@@ -95,6 +94,7 @@ fn link_to_take<D: Disk>(
 fn take_slot<D: Disk>(disk: &mut Cached<D>, class: u8, room: &mut Room) -> Result<u32, StepFault>
     requires class { (1 ≤ class) × (class ≤ 11) }
     requires end { room.old.end ≤ 2 ^ 24 }
+    requires space { room.old.stack.count ≡ 0 → room.old.end < 2 ^ 24 }
     ensures reads { ReadsAtMost ⟦<D as Disk>⟧ 1 disk.old.disk disk.new.disk }
     ensures small { IfOk result (λ slot. slot < 2 ^ 24) }
     ensures end { room.new.end ≤ 2 ^ 24 }
@@ -111,26 +111,19 @@ fn take_slot<D: Disk>(disk: &mut Cached<D>, class: u8, room: &mut Room) -> Resul
             let link = link_to_take(disk, class, slot, room.stack.count())?;
             Ok(room.stack.take(link))
         }
-        None => take_end(room),
+        None => Ok(take_end(room)),
     }
 }
 
 /// Takes the slot at the end.
-fn take_end(room: &mut Room) -> Result<u32, StepFault>
-    requires end { room.old.end ≤ 2 ^ 24 }
-    ensures small { IfOk result (λ slot. slot < 2 ^ 24) }
-    ensures end { room.new.end ≤ 2 ^ 24 }
-    ensures slot { IfOk result (λ slot. slot ≡ room.old.end) }
-    ensures room { IfOk result (λ slot. room.new ≡ record room.old { end = room.old.end + 1 }) }
-    ensures cause { IfErr result (λ fault. fault ≡ StepFault.NoMemory) }
+fn take_end(room: &mut Room) -> u32
+    requires { room.old.end < 2 ^ 24 }
+    ensures slot { result ≡ room.old.end }
+    ensures room { room.new ≡ record room.old { end = room.old.end + 1 } }
 {
     let slot = room.end;
-    if slot < MOST_SLOTS {
-        room.end = slot + 1;
-        Ok(slot)
-    } else {
-        Err(StepFault::NoMemory)
-    }
+    room.end = slot + 1;
+    slot
 }
 
 /// The place of the key's entry, where an item of this class stays there.
@@ -162,6 +155,7 @@ pub fn place_for<D: Disk>(
     requires class { (1 ≤ class) × (class ≤ 11) }
     requires from { IfSome from (λ entry. IsSlabPlace entry.place) }
     requires ends { AreEnds rooms.old.items }
+    requires space { HasSpace (slot_class from (Some class)) rooms.old.items }
     ensures reads { ReadsAtMost ⟦<D as Disk>⟧ 1 disk.old.disk disk.new.disk }
     ensures place { IfOk result (λ place. IsSlabPlace place × (place.class ≡ class)) }
     ensures ends { AreEnds rooms.new.items }

@@ -20,6 +20,7 @@ use Rattle.kv_slab.specs.Memory.{HaveLengths, new_in}
 use Rattle.kv_slab.specs.Rooms.{needed, new_class, left_by}
 use Rattle.kv_slab.proofs.LengthLemmas.{lengths-none, lengths-same, lengths-taken, needed-more}
 use Rattle.kv_slab.proofs.LengthLemmas.{pair-step}
+use Rattle.kv_slab.proofs.SpaceLemmas.{space-step}
 use Rattle.kv_slab.proofs.assign.assign.Goals as goal
 
 pub loop-change-init : goal.loop-change-init
@@ -49,6 +50,15 @@ assign_one-requires-clause-fits g c = c.requires.fits c.loop-change.change-index
     c.change-item.result
     (slice_get_read c.args.changes.now (length c.args.changes.now) c.loop-change.change-index
     c.change-item.result refl c.loop-change-test.true c.change-item.is)
+
+pub assign_one-requires-clause-space : goal.assign_one-requires-clause-space
+assign_one-requires-clause-space g c = space-step (finite.get (g.I.Index.entries
+    c.args.index.now)) c.args.changes.now c.loop-change.change-index c.change-item.result
+    c.args.rooms.now.items c.loop-change.rooms.items
+    (c.requires.ends.count ∙ sym c.loop-change.invariant.ends.count)
+    (slice_get_read c.args.changes.now (length c.args.changes.now) c.loop-change.change-index
+    c.change-item.result refl c.loop-change-test.true c.change-item.is) c.requires.space
+    c.loop-change.invariant.counted
 
 pub returns-in_err-step-clause-reads : goal.returns-in_err-step-clause-reads
 returns-in_err-step-clause-reads g c = at_most-then g.D.Disk c.loop-change.change-index 1

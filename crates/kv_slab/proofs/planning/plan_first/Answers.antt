@@ -23,22 +23,22 @@ loop-i-init g c = record {
       subst (λ (ps : List Page). FirstSoFar c.args.changes.now c.args.moves.now 0
       (slot_at all_classes (g.D.Disk.seen c.args.disk.now.disk))
       (slot_at all_classes (over (g.D.Disk.seen c.args.disk.now.disk) ps)))
-      (sym c.new-pages.ensures.items)
+      (sym c.new-round.ensures)
       (first_start c.args.changes.now c.args.moves.now (slot_at all_classes
       (g.D.Disk.seen c.args.disk.now.disk)));
   still = λ _. subst (λ (ps : List Page). StillFirst c.args.moves.now
       (g.D.Disk.seen c.args.disk.now.disk) (over (g.D.Disk.seen c.args.disk.now.disk) ps))
-      (sym c.new-pages.ensures.items) (λ cl s none. record {
+      (sym c.new-round.ensures) (λ cl s none. record {
         small = λ _. refl;
         large =
             λ _ page below. refl;
       });
   whole = λ _ _ i ch m t below. absurd (omega arith);
   floor = λ _ bound up bounded. subst (λ (ps : List Page). HasFloorUpTo bound
-      (over (g.D.Disk.seen c.args.disk.now.disk) ps)) (sym c.new-pages.ensures.items) bounded;
-  pages = subst (λ (ps : List Page). ArePages ps) (sym c.new-pages.ensures.items)
+      (over (g.D.Disk.seen c.args.disk.now.disk) ps)) (sym c.new-round.ensures) bounded;
+  pages = subst (λ (ps : List Page). ArePages ps) (sym c.new-round.ensures)
       (record { apart = tt; of_slabs = tt });
-  count = let e : length c.new-pages.result.items ≡ 0 = ap length c.new-pages.ensures.items in omega
+  count = let e : length c.new-round.result ≡ 0 = ap length c.new-round.ensures in omega
       arith;
 }
 
@@ -71,9 +71,9 @@ loop-i-preserved g c =
       first = λ told apart.
           first_more c.args.changes.now c.args.moves.now c.loop-i.i
           (slot_at all_classes (g.D.Disk.seen c.args.disk.now.disk))
-          (slot_at all_classes (over (g.D.Disk.seen c.args.disk.now.disk) c.loop-i.pages.items))
+          (slot_at all_classes (over (g.D.Disk.seen c.args.disk.now.disk) c.loop-i.round))
           (slot_at all_classes (over (g.D.Disk.seen c.args.disk.now.disk)
-          c.first_one.new.pages.items)) c.index-changes-i.result move apart
+          c.first_one.new.round)) c.index-changes-i.result move apart
           (record {
             change = slice_get_read c.args.changes.now (length c.args.changes.now) c.loop-i.i
                 c.index-changes-i.result refl c.loop-i-test.true c.index-changes-i.is;
@@ -83,20 +83,20 @@ loop-i-preserved g c =
           (subst
           (λ (im : Image). IsWritten c.index-changes-i.result
           (to_of move.to c.index-changes-i.result.value)
-          (slot_at all_classes (over im c.loop-i.pages.items))
-          (slot_at all_classes (over im c.first_one.new.pages.items)))
+          (slot_at all_classes (over im c.loop-i.round))
+          (slot_at all_classes (over im c.first_one.new.round)))
           (c.loop-i.invariant.reads.reads.seen told) (c.in_ok-first_one.ensures.written told));
       still = λ told. still_first-more c.args.moves.now (g.D.Disk.seen c.args.disk.now.disk)
-          (over (g.D.Disk.seen c.args.disk.now.disk) c.loop-i.pages.items)
-          (over (g.D.Disk.seen c.args.disk.now.disk) c.first_one.new.pages.items)
+          (over (g.D.Disk.seen c.args.disk.now.disk) c.loop-i.round)
+          (over (g.D.Disk.seen c.args.disk.now.disk) c.first_one.new.round)
           c.loop-i.i move at
-          (subst (λ (im : Image). StillBeside move.to (over im c.loop-i.pages.items)
-          (over im c.first_one.new.pages.items)) (c.loop-i.invariant.reads.reads.seen told)
+          (subst (λ (im : Image). StillBeside move.to (over im c.loop-i.round)
+          (over im c.first_one.new.round)) (c.loop-i.invariant.reads.reads.seen told)
           (c.in_ok-first_one.ensures.still told))
           (c.loop-i.invariant.still told);
       whole = λ told apart. whole_more c.args.changes.now c.args.moves.now c.loop-i.i
-          (over (g.D.Disk.seen c.args.disk.now.disk) c.loop-i.pages.items)
-          (over (g.D.Disk.seen c.args.disk.now.disk) c.first_one.new.pages.items)
+          (over (g.D.Disk.seen c.args.disk.now.disk) c.loop-i.round)
+          (over (g.D.Disk.seen c.args.disk.now.disk) c.first_one.new.round)
           c.index-changes-i.result move apart
           (record {
             change = slice_get_read c.args.changes.now (length c.args.changes.now) c.loop-i.i
@@ -104,16 +104,16 @@ loop-i-preserved g c =
             move = at;
           })
           (subst (λ (im : Image). IsWhole c.index-changes-i.result
-          (to_of move.to c.index-changes-i.result.value) (over im c.first_one.new.pages.items))
+          (to_of move.to c.index-changes-i.result.value) (over im c.first_one.new.round))
           (c.loop-i.invariant.reads.reads.seen told) (c.in_ok-first_one.ensures.whole told))
-          (subst (λ (im : Image). StillBeside move.to (over im c.loop-i.pages.items)
-          (over im c.first_one.new.pages.items)) (c.loop-i.invariant.reads.reads.seen told)
+          (subst (λ (im : Image). StillBeside move.to (over im c.loop-i.round)
+          (over im c.first_one.new.round)) (c.loop-i.invariant.reads.reads.seen told)
           (c.in_ok-first_one.ensures.still told))
           (c.loop-i.invariant.whole told apart);
       floor = λ told bound up bounded.
           subst (λ (im : Image). (n : ℕ) → c.index-changes-i.result.stamp ≤ n
-          → HasFloorUpTo n (over im c.loop-i.pages.items)
-          → HasFloorUpTo n (over im c.first_one.new.pages.items))
+          → HasFloorUpTo n (over im c.loop-i.round)
+          → HasFloorUpTo n (over im c.first_one.new.round))
           (c.loop-i.invariant.reads.reads.seen told) (c.in_ok-first_one.ensures.floor told)
           bound (up c.loop-i.i c.index-changes-i.result (slice_get_read c.args.changes.now
           (length c.args.changes.now) c.loop-i.i c.index-changes-i.result refl
@@ -129,7 +129,7 @@ returns-clause-whole g c = λ told apart.
     let b = c.loop-i.auto.i-end in
     let e : c.loop-i.i ≡ length c.args.changes.now = omega arith in
     subst (λ (n : ℕ). AreWhole c.args.changes.now c.args.moves.now n
-    (over (g.D.Disk.seen c.args.disk.now.disk) c.loop-i.pages.items)) e
+    (over (g.D.Disk.seen c.args.disk.now.disk) c.loop-i.round)) e
     (c.loop-i.invariant.whole told apart)
 
 pub returns-clause-first : goal.returns-clause-first
@@ -139,5 +139,5 @@ returns-clause-first g c = λ told apart.
     let e : c.loop-i.i ≡ length c.args.changes.now = omega arith in
     subst (λ (n : ℕ). FirstSoFar c.args.changes.now c.args.moves.now n
     (slot_at all_classes (g.D.Disk.seen c.args.disk.now.disk))
-    (slot_at all_classes (over (g.D.Disk.seen c.args.disk.now.disk) c.loop-i.pages.items))) e
+    (slot_at all_classes (over (g.D.Disk.seen c.args.disk.now.disk) c.loop-i.round))) e
     (c.loop-i.invariant.first told apart)

@@ -13,14 +13,14 @@ invariant-loop-i g l = record {
   faults : g.D.Disk.faults l.disk.disk ≡ g.D.Disk.faults l.fn.disk.disk;
   first : IsTrue g.D.Disk.tells → TargetsApart l.moves → FirstSoFar l.changes l.moves l.i
       (slot_at all_classes (g.D.Disk.seen l.fn.disk.disk)) (slot_at all_classes
-      (over (g.D.Disk.seen l.fn.disk.disk) l.pages.items));
+      (over (g.D.Disk.seen l.fn.disk.disk) l.round));
   still : IsTrue g.D.Disk.tells → StillFirst l.moves (g.D.Disk.seen l.fn.disk.disk)
-      (over (g.D.Disk.seen l.fn.disk.disk) l.pages.items);
-  pages : ArePages l.pages.items;
+      (over (g.D.Disk.seen l.fn.disk.disk) l.round);
+  pages : ArePages l.round;
   whole : IsTrue g.D.Disk.tells → TargetsApart l.moves → AreWhole l.changes l.moves l.i
-      (over (g.D.Disk.seen l.fn.disk.disk) l.pages.items);
+      (over (g.D.Disk.seen l.fn.disk.disk) l.round);
   floor : IsTrue g.D.Disk.tells → (bound : ℕ) → AreUpTo bound l.changes
       → HasFloorUpTo bound (g.D.Disk.seen l.fn.disk.disk) → HasFloorUpTo bound
-      (over (g.D.Disk.seen l.fn.disk.disk) l.pages.items);
-  count : length l.pages.items ≤ 16 * l.i;
+      (over (g.D.Disk.seen l.fn.disk.disk) l.round);
+  count : length l.round ≤ 16 * l.i;
 }

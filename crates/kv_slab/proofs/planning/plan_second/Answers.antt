@@ -23,21 +23,21 @@ loop-i-init g c =
       second = λ _ _.
           subst (λ (ps : List Page). SecondSoFar c.args.moves.now c.args.links.now 0
           (slot_at all_classes base) (slot_at all_classes (over base ps)))
-          (sym c.new-pages.ensures.items)
+          (sym c.new-round.ensures)
           (second_start c.args.moves.now c.args.links.now (slot_at all_classes base));
       still = λ _. subst (λ (ps : List Page). StillSecond c.args.moves.now base (over base ps))
-          (sym c.new-pages.ensures.items) (λ cl s none. record {
+          (sym c.new-round.ensures) (λ cl s none. record {
             small = λ _. refl;
             large =
                 λ _ page below. refl;
           });
       later = λ _. subst (λ (ps : List Page). StillLater base (over base ps))
-          (sym c.new-pages.ensures.items) (λ cl p above limit out. refl);
+          (sym c.new-round.ensures) (λ cl p above limit out. refl);
       floor = λ _ bound up bounded. subst (λ (ps : List Page). HasFloorUpTo bound (over base ps))
-          (sym c.new-pages.ensures.items) bounded;
-      pages = subst (λ (ps : List Page). ArePages ps) (sym c.new-pages.ensures.items)
+          (sym c.new-round.ensures) bounded;
+      pages = subst (λ (ps : List Page). ArePages ps) (sym c.new-round.ensures)
           (record { apart = tt; of_slabs = tt });
-      count = let e : length c.new-pages.result.items ≡ 0 = ap length c.new-pages.ensures.items in
+      count = let e : length c.new-round.result ≡ 0 = ap length c.new-round.ensures in
           omega arith;
     }
 
@@ -73,33 +73,33 @@ loop-i-preserved g c =
       faults = c.in_ok-second_one.ensures.cause ∙ c.loop-i.invariant.faults;
       second = λ told apart.
           second_more c.args.moves.now c.args.links.now c.loop-i.i (slot_at all_classes base)
-          (slot_at all_classes (over base c.loop-i.pages.items))
-          (slot_at all_classes (over base c.second_one.new.pages.items)) c.index-moves-i.result link
+          (slot_at all_classes (over base c.loop-i.round))
+          (slot_at all_classes (over base c.second_one.new.round)) c.index-moves-i.result link
           apart at linked
           (c.loop-i.invariant.second told apart)
           (subst
           (λ (im : Image). IsVacated c.index-moves-i.result.stamp c.index-moves-i.result.left link
-          (slot_at all_classes (over (over im c.args.first.now) c.loop-i.pages.items))
-          (slot_at all_classes (over (over im c.args.first.now) c.second_one.new.pages.items)))
+          (slot_at all_classes (over (over im c.args.first.now) c.loop-i.round))
+          (slot_at all_classes (over (over im c.args.first.now) c.second_one.new.round)))
           (c.loop-i.invariant.reads.reads.seen told) (c.in_ok-second_one.ensures.vacated told));
-      still = λ told. still_second-more c.args.moves.now base (over base c.loop-i.pages.items)
-          (over base c.second_one.new.pages.items)
+      still = λ told. still_second-more c.args.moves.now base (over base c.loop-i.round)
+          (over base c.second_one.new.round)
           c.loop-i.i c.index-moves-i.result at
           (subst (λ (im : Image). StillBeside c.index-moves-i.result.left
-          (over (over im c.args.first.now) c.loop-i.pages.items)
-          (over (over im c.args.first.now) c.second_one.new.pages.items))
+          (over (over im c.args.first.now) c.loop-i.round)
+          (over (over im c.args.first.now) c.second_one.new.round))
           (c.loop-i.invariant.reads.reads.seen told) (c.in_ok-second_one.ensures.still told))
           (c.loop-i.invariant.still told);
       later = λ told cl p above limit out.
-          subst (λ (im : Image). StillLater (over (over im c.args.first.now) c.loop-i.pages.items)
-          (over (over im c.args.first.now) c.second_one.new.pages.items))
+          subst (λ (im : Image). StillLater (over (over im c.args.first.now) c.loop-i.round)
+          (over (over im c.args.first.now) c.second_one.new.round))
           (c.loop-i.invariant.reads.reads.seen told) (c.in_ok-second_one.ensures.later told) cl
           p above limit out
           ∙ c.loop-i.invariant.later told cl p above limit out;
       floor = λ told bound up bounded.
           subst (λ (im : Image). (n : ℕ) → c.index-moves-i.result.stamp ≤ n
-          → HasFloorUpTo n (over (over im c.args.first.now) c.loop-i.pages.items)
-          → HasFloorUpTo n (over (over im c.args.first.now) c.second_one.new.pages.items))
+          → HasFloorUpTo n (over (over im c.args.first.now) c.loop-i.round)
+          → HasFloorUpTo n (over (over im c.args.first.now) c.second_one.new.round))
           (c.loop-i.invariant.reads.reads.seen told) (c.in_ok-second_one.ensures.floor told)
           bound (up c.loop-i.i c.index-moves-i.result at) (c.loop-i.invariant.floor told bound up
           bounded);
@@ -115,4 +115,4 @@ returns-clause-second g c = λ told apart.
     subst (λ (n : ℕ). SecondSoFar c.args.moves.now c.args.links.now n
     (slot_at all_classes (over (g.D.Disk.seen c.args.disk.now.disk) c.args.first.now))
     (slot_at all_classes (over (over (g.D.Disk.seen c.args.disk.now.disk) c.args.first.now)
-    c.loop-i.pages.items))) e (c.loop-i.invariant.second told apart)
+    c.loop-i.round))) e (c.loop-i.invariant.second told apart)

@@ -14,14 +14,14 @@ invariant-loop-i g l = record {
   faults : g.D.Disk.faults l.disk.disk ≡ g.D.Disk.faults l.fn.disk.disk;
   second : IsTrue g.D.Disk.tells → LeftApart l.moves → SecondSoFar l.moves l.links l.i
       (slot_at all_classes (over (g.D.Disk.seen l.fn.disk.disk) l.first))
-      (slot_at all_classes (over (over (g.D.Disk.seen l.fn.disk.disk) l.first) l.pages.items));
+      (slot_at all_classes (over (over (g.D.Disk.seen l.fn.disk.disk) l.first) l.round));
   still : IsTrue g.D.Disk.tells → StillSecond l.moves (over (g.D.Disk.seen l.fn.disk.disk) l.first)
-      (over (over (g.D.Disk.seen l.fn.disk.disk) l.first) l.pages.items);
+      (over (over (g.D.Disk.seen l.fn.disk.disk) l.first) l.round);
   later : IsTrue g.D.Disk.tells → StillLater (over (g.D.Disk.seen l.fn.disk.disk) l.first)
-      (over (over (g.D.Disk.seen l.fn.disk.disk) l.first) l.pages.items);
+      (over (over (g.D.Disk.seen l.fn.disk.disk) l.first) l.round);
   floor : IsTrue g.D.Disk.tells → (bound : ℕ) → StampsUpTo bound l.moves
       → HasFloorUpTo bound (over (g.D.Disk.seen l.fn.disk.disk) l.first)
-      → HasFloorUpTo bound (over (over (g.D.Disk.seen l.fn.disk.disk) l.first) l.pages.items);
-  pages : ArePages l.pages.items;
-  count : length l.pages.items ≤ l.i;
+      → HasFloorUpTo bound (over (over (g.D.Disk.seen l.fn.disk.disk) l.first) l.round);
+  pages : ArePages l.round;
+  count : length l.round ≤ l.i;
 }

@@ -11,6 +11,27 @@ use Rattle.kv_slab.proofs.PlanLemmas.{planned_of}
 use Rattle.kv_slab.proofs.StoreLemmas.{open_stays, of_worker_open}
 use Rattle.kv_slab.proofs.slabs.Slabs.plan.Goals as goal
 
+pub make_plan-requires-clause-filled : goal.make_plan-requires-clause-filled
+make_plan-requires-clause-filled g c =
+    let s = c.self.inside in
+    subst (λ (ts : List Tail). AreFilled (g.I.Index.entries s.index)
+    (rooms_of ts c.as_slice-2.result.now)) (sym c.as_slice.ensures)
+    (subst (λ (es : List ℕ). AreFilled (g.I.Index.entries s.index) (rooms_of s.stacks.items es))
+    (sym c.as_slice-2.ensures) c.self.invariant.filled)
+
+pub make_plan-requires-clause-can : goal.make_plan-requires-clause-can
+make_plan-requires-clause-can g c =
+    let s = c.self.inside in
+    let d = g.D.Disk in (
+      s.limits.slots,
+      s.worker,
+      s.workers,
+      c.self.invariant.limits.slots,
+      subst (λ v. CanChange d.tells (d.seen v.disk.disk) (g.I.Index.entries v.index)
+          v.limits.slots v.worker v.workers c.args.changes.now) (sym c.self.view_is)
+          c.requires.can,
+    )
+
 pub invariant_of-self-2 : goal.invariant_of-self-2
 invariant_of-self-2 g c =
     let s = c.self.inside in

@@ -22,7 +22,7 @@ use Rattle.kv_worker.specs.Worker.{value_told}
 use Rattle.kv_worker.proofs.ListLemmas.{none-some}
 
 -- the value that was written, or the one that was there
-abbrev given_value : ℕ × List ℕ → List ℕ
+abbrev pub given_value : ℕ × List ℕ → List ℕ
 given_value given = given.1
 
 none-of : (key : List ℕ) (write : Write) (writes : List Write) → write.key ≡ key
@@ -102,7 +102,8 @@ entry-class (c ∷ cs) key old new differ (inr other) =
     ∙ sym (ap (λ o. class_or all_classes o (option_map (λ (e : Entry). e.place.class) old))
     (last-other key (write_of c) (writes_of cs) (differs c.key key other.0)))
 
-blank : Option Entry → Option (List ℕ)
+-- that there is an entry
+abbrev blank : Option Entry → Option (List ℕ)
 blank entry = option_map (λ _. []) entry
 
 value-there : (c : Change) (new : Option Entry) → IsEntryAfter c new
@@ -130,7 +131,7 @@ entry-there (c ∷ cs) key old new differ (inr other) = entry-there cs key old n
     ∙ sym (ap (λ o. is_some (value_or o (blank old))) (last-other key (write_of c) (writes_of cs)
     (differs c.key key other.0)))
 
-same-self : (told : Bool) (value : Option (List ℕ)) → SameValue told value value
+pub same-self : (told : Bool) (value : Option (List ℕ)) → SameValue told value value
 same-self told None = tt
 same-self told (Some value) = λ _. refl
 

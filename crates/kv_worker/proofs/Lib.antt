@@ -16,3 +16,7 @@ pub mod TaskWriteLemmas
 pub mod PlanLemmas
 pub mod RecoverLemmas
 pub mod PairLemmas
+pub mod MomentLemmas
+pub mod StepLemmas
+pub mod AfterLemmas
+pub mod MayPlanLemmas

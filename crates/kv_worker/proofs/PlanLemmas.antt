@@ -133,7 +133,8 @@ net-present start tells read entries requests base values =
     ∙ something write.value (start.value write.key) changes none))
     (filter-passes (changes_something start) all)
 
-write-at : (changes : List Change) (i : ℕ) (c : Change) → slice_get changes i ≡ Some c
+-- the write of a change
+pub write-at : (changes : List Change) (i : ℕ) (c : Change) → slice_get changes i ≡ Some c
     → slice_get (writes_of changes) i ≡ Some (write_of c)
 write-at changes i c is = slice_get-map write_of changes i ∙ ap (option_map write_of) is
 

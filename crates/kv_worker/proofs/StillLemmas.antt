@@ -52,6 +52,16 @@ still-then {D} {I} d i m n most old mid new sum first next = record {
   }) first.rest;
 }
 
+-- a store that was read, and then planned
+pub still-plan : {D I : Type 0} (d : disks.Ghosts D) (i : indexes.Ghosts I) (m n most : ℕ)
+    (old mid new : View D I) → m + n ≤ most → HasRead d m old mid
+    → ReadsAtMost d n mid.disk.disk new.disk.disk → i.entries new.index ≡ i.entries mid.index
+    → new ≡ record mid { disk = new.disk; index = new.index; plan = new.plan }
+    → IsStill d i most old new
+still-plan d i m n most old mid new sum read reads entries rest =
+    still-then d i m n most old mid new sum (still-read d i m old mid read)
+    (record { reads = reads; entries = entries; rest = rest })
+
 -- of answers that are told, the same is told
 pub value-same : (tells : Bool) (a b : Answer) (entry : Option Entry) → (IsTrue tells → a ≡ b)
     → value_told tells a entry ≡ value_told tells b entry

@@ -19,7 +19,8 @@ fn set_reply(item: &mut (u32, Task), reply: Reply)
 /// Gives each task its reply, in their order. Takes no memory.
 pub fn set_replies(batch: &mut Batch, replies: Vec<Reply>)
     requires { length replies.items ≡ length batch.old.items }
-    ensures { AreAnswered batch.old.items batch.new.items replies.items }
+    ensures answered { AreAnswered batch.old.items batch.new.items replies.items }
+    ensures spare { batch.new.spare ≡ batch.old.spare }
 {
     let tasks = batch.as_mut_slice();
     let mut at: usize = 0;
@@ -31,8 +32,9 @@ pub fn set_replies(batch: &mut Batch, replies: Vec<Reply>)
 
 /// Gives each task the reply that tells the refusal. Takes no memory.
 pub fn refuse_all(batch: &mut Batch, refusal: Refusal)
-    ensures { AreAnswered batch.old.items batch.new.items
+    ensures answered { AreAnswered batch.old.items batch.new.items
         (map (λ _. reply_for refusal) (requests_in batch.old.items)) }
+    ensures spare { batch.new.spare ≡ batch.old.spare }
 {
     let tasks = batch.as_mut_slice();
     for at in 0..tasks.len() {

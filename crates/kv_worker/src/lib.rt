@@ -12,6 +12,7 @@ mod pass;
 mod prepare;
 mod refusal;
 mod room;
+mod step;
 mod value;
 mod worker;
 

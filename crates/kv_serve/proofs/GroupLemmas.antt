@@ -4,7 +4,7 @@ use Rattle.std.proofs.Common.{length, take, drop, get_or, Option, Some, None, Bo
 use Rattle.std.proofs.Common.{refl, sym, ap, subst, ◌∙◌, arith, not, append_assoc, set, is_some}
 use Rattle.std.proofs.Common.{length-append, length-take, cond}
 use Rattle.std.proofs.lemmas.List.{take_more, take_more_set, drop-set-lt, drop-drop, get_or-drop}
-use Rattle.std.proofs.lemmas.List.{set-get_or, map-set, map-append, take-set, drop-set, length-map}
+use Rattle.std.proofs.lemmas.List.{set-get_or, map-set, map-append, take-set, drop-set, length-map, take_at}
 use Rattle.std.proofs.lemmas.List.Elements.{filter-append}
 use Rattle.kv_base.specs.declared.request.Request.{Request}
 use Rattle.kv_base.specs.declared.reply.Reply.TheVariants.{StampsSpent}
@@ -69,7 +69,7 @@ few-more : (b : Bool) (task : Task) (tasks : List Task) (n : ℕ) → length tas
 few-more true task tasks n le = omega (arith, le)
 few-more false task tasks n le = omega (arith, le)
 
-few-filtered : (tasks : List Task) → length (filter waits tasks) ≤ length tasks
+pub few-filtered : (tasks : List Task) → length (filter waits tasks) ≤ length tasks
 few-filtered [] = omega arith
 few-filtered (task ∷ tasks) = few-more (waits task) task (filter waits tasks) (length tasks)
     (few-filtered tasks)
@@ -106,6 +106,11 @@ unfolding missing
 missing-of [] = refl
 missing-of (task ∷ tasks) =
     missing-one task.reply task (filter waits tasks) (replies_of tasks) (missing-of tasks)
+
+-- as many tasks wait where the replies are the same
+pub waits-same : (tasks others : List Task) → replies_of tasks ≡ replies_of others
+    → length (filter waits tasks) ≡ length (filter waits others)
+waits-same tasks others e = missing-of tasks ∙ ap missing e ∙ sym (missing-of others)
 
 -- what stands last in place of a missing reply
 filled-missing : (replies others : List (Option Reply)) (last : Option Reply)
@@ -290,3 +295,8 @@ refused-more first batch i d new number below below_too same are session request
           ∙ ap (map some) (sym (map-append reply_to (requests_in (take i first)) (item.1.request
           ∷ [])) ∙ ap (map reply_to) (sym requests));
     }
+
+-- items that were lent, with those that were written in their place
+pub lent-is : {X : Type 0} (items written : List X) → length written ≡ length items
+    → take (length items) (written ++ drop (length written) items) ≡ written
+lent-is items written e = take_at written (drop (length written) items) (length items) e

@@ -1,4 +1,5 @@
 pub mod Answers
 pub mod Begins
 pub mod Group
+pub mod Outcome
 pub mod Words

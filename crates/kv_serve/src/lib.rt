@@ -1,6 +1,7 @@
 //! The program's commands, from words and bytes to bytes.
 #![tactic(auto)]
 
+mod answer;
 mod batches;
 mod counter;
 mod room;

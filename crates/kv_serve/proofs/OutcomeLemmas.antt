@@ -25,6 +25,7 @@ use Rattle.kv_serve.specs.Group.{waits, of_session, filled}
 use Rattle.kv_worker.specs.Worker.{WorkerView}
 use Rattle.kv_serve.specs.Outcome.{IsOwn, HasBatch, IsAlone}
 use Rattle.kv_serve.proofs.GroupLemmas.{few-filtered, waits-same}
+use Rattle.kv_serve.proofs.OwnLemmas.{refused-has}
 
 -- the only worker has every key
 first-owns : (key : Option (List ℕ)) → IfSome key (λ k. owner_of k 1 ≡ 0)
@@ -123,28 +124,7 @@ frame-spent number le = record { body = omega (arith, le); size = omega arith }
 -- the refusals that a session gives itself have frames
 own-framed : (request : Request) (reply : Reply) → MatchOption (refusal_of all_classes request)
     (reply ≡ NoMemory) (λ refusal. reply ≡ refusal) → HasReplyFrame reply
-own-framed (Put key value) reply own =
-    by (is_key_length all_classes (length key))
-    (is_some (class_of all_classes (length key) (length value))) own
-  where
-    by : (good fits : Bool) → MatchOption (cond good (cond fits None (Some TooLarge)) (Some BadKey))
-        (reply ≡ NoMemory) (λ refusal. reply ≡ refusal) → HasReplyFrame reply
-    by true true e = subst HasReplyFrame (sym e) frame-no_memory
-    by true false e = subst HasReplyFrame (sym e) frame-too_large
-    by false fits e = subst HasReplyFrame (sym e) frame-bad_key
-own-framed (Get key) reply own = by (is_key_length all_classes (length key)) own
-  where
-    by : (good : Bool) → MatchOption (cond good None (Some BadKey)) (reply ≡ NoMemory)
-        (λ refusal. reply ≡ refusal) → HasReplyFrame reply
-    by true e = subst HasReplyFrame (sym e) frame-no_memory
-    by false e = subst HasReplyFrame (sym e) frame-bad_key
-own-framed (Delete key) reply own = by (is_key_length all_classes (length key)) own
-  where
-    by : (good : Bool) → MatchOption (cond good None (Some BadKey)) (reply ≡ NoMemory)
-        (λ refusal. reply ≡ refusal) → HasReplyFrame reply
-    by true e = subst HasReplyFrame (sym e) frame-no_memory
-    by false e = subst HasReplyFrame (sym e) frame-bad_key
-own-framed Flush reply own = subst HasReplyFrame (sym own) frame-no_memory
+own-framed = refused-has HasReplyFrame frame-no_memory frame-bad_key frame-too_large
 
 -- the same reply to each request
 pub all-framed : (reply : Reply) (requests : List Request) → HasReplyFrame reply

@@ -4,5 +4,6 @@
 mod answer;
 mod batches;
 mod counter;
+mod laws;
 mod room;
 mod words;

@@ -82,7 +82,7 @@ or-same : (a : Bool) → (a || a) ≡ a
 or-same true = refl
 or-same false = refl
 
-const-fault : (reply : Reply) (requests : List Request) → 1 ≤ length requests
+pub const-fault : (reply : Reply) (requests : List Request) → 1 ≤ length requests
     → any_reply is_fault (pairs_of requests (map (λ _. reply) requests)) ≡ is_fault reply
 const-fault reply [] some = absurd (omega (arith, some))
 const-fault reply (request ∷ []) some = or-false (is_fault reply)

@@ -6,3 +6,4 @@ pub mod ReplyLemmas
 pub mod RunLemmas
 pub mod AddsLemmas
 pub mod RecoverLemmas
+pub mod StepLemmas

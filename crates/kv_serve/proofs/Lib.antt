@@ -7,3 +7,5 @@ pub mod RunLemmas
 pub mod AddsLemmas
 pub mod RecoverLemmas
 pub mod StepLemmas
+pub mod KeepLemmas
+pub mod SessionLemmas

@@ -304,7 +304,7 @@ open-exit d i first old new from before floor groups requests given run open_ st
     groups run open_) still image left)
 
 -- the counter behind a step is above the worker
-steps-ahead : {D I : Type 0} (d : disks.Ghosts D) (i : indexes.Ghosts I) (old new : WorkerView D I)
+pub steps-ahead : {D I : Type 0} (d : disks.Ghosts D) (i : indexes.Ghosts I) (old new : WorkerView D I)
     (from to : Counter) (requests : List Request) (given : List Reply)
     → Steps d i old new requests from.next given → from.next + length requests ≤ 2 ^ 62
     → to ≡ record { next = from.next + length requests; spent = false } → IsAhead new to

@@ -1,7 +1,8 @@
 -- A run so far: its groups, and the worker and the counter behind them.
-use Rattle.std.specs.Prelude.{◌≡◌, ℕ, ◌+◌, ◌-◌, ◌^◌, ◌<◌, ◌≤◌, List, ◌++◌, length, true, false}
-use Rattle.std.specs.Prelude.{MatchOption, ⊤}
+use Rattle.std.specs.Prelude.{◌≡◌, ℕ, ◌+◌, ◌-◌, ◌^◌, ◌<◌, ◌≤◌, List, [], ◌++◌, length, Bool}
+use Rattle.std.specs.Prelude.{true, false, None, MatchOption, ⊤}
 use Rattle.std.specs.List.{AllByRecursion}
+use Rattle.kv_base.specs.declared.cause.Cause.{Cause}
 use Rattle.kv_disk.specs.declared.disk.Disk as disks
 use Rattle.kv_index.specs.declared.index.Index as indexes
 use Rattle.kv_model.specs.History.{Write}
@@ -10,6 +11,8 @@ use Rattle.kv_model.specs.Pairs.{Pair, pairs_in, writes, stamp_of}
 use Rattle.kv_serve.specs.Answers.{HasAnswers, Recovers, any_unsure}
 use Rattle.kv_serve.specs.Outcome.{IsAhead, IsAlone}
 use Rattle.kv_serve.specs.declared.counter.Counter.{Counter}
+use Rattle.kv_session.specs.Passage.{Streams, HasRead, HasEnded}
+use Rattle.kv_session.specs.Session.{SessionState}
 use Rattle.kv_worker.specs.Worker.{WorkerView, start_of}
 
 -- the stamp that the reply carries, if it does, is below this one
@@ -40,3 +43,11 @@ pub record HasRun {D I : Type 0} (d : disks.Ghosts D) (i : indexes.Ghosts I)
   pub stamps : HasStamps before floor counter (pairs_in groups)
   pub follows : now.store.closed ≡ false → FollowsHistory d.tells (before ++ writes
       (pairs_in groups)) (counter.next - 1) (start_of d i now.store)
+
+-- behind these groups the session goes on, or has ended
+abbrev pub IsSession : {So Si : Type 0} → Streams So Si → So → Si → List (List Pair)
+    → SessionState So Si → Bool → Type 0
+IsSession streams source sink groups now true =
+    HasRead streams source sink groups [] now × (now.closing ≡ None)
+IsSession streams source sink groups now false =
+    (cause : Cause) × HasEnded streams source sink groups cause now

@@ -6,4 +6,6 @@ mod batches;
 mod counter;
 mod laws;
 mod room;
+mod run;
+mod serve;
 mod words;

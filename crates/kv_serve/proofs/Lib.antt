@@ -9,3 +9,4 @@ pub mod RecoverLemmas
 pub mod StepLemmas
 pub mod KeepLemmas
 pub mod SessionLemmas
+pub mod BeginLemmas

@@ -2,3 +2,15 @@ pub mod FoundLemmas
 pub mod OpeningLemmas
 pub mod ServeLemmas
 pub mod StartLemmas
+pub mod GroupLemmas
+pub mod OutcomeLemmas
+pub mod OwnLemmas
+pub mod StampLemmas
+pub mod ReplyLemmas
+pub mod RunLemmas
+pub mod AddsLemmas
+pub mod RecoverLemmas
+pub mod StepLemmas
+pub mod KeepLemmas
+pub mod SessionLemmas
+pub mod BeginLemmas

@@ -2,4 +2,8 @@ pub mod Answers
 pub mod Begins
 pub mod Opening
 pub mod Serve
+pub mod Group
+pub mod Laws
+pub mod Outcome
+pub mod Run
 pub mod Words

@@ -1,11 +1,16 @@
 //! The program's commands, from words and bytes to bytes.
 #![tactic(auto)]
 
+mod answer;
+mod batches;
+mod counter;
 mod ended;
 mod give_back;
+mod laws;
 mod opening;
 mod refuse;
 mod room;
+mod run;
 mod serve;
 mod serve_disk;
 mod status;

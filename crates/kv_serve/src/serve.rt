@@ -6,11 +6,13 @@ ghost use Rattle.kv_session.specs.Session.{IsNew};
 ghost use Rattle.kv_serve.specs.Answers.{HasAnswers, Recovers, any_unsure};
 ghost use Rattle.kv_serve.specs.Begins.{Begins};
 
+use crate::counter::Counter;
 use crate::room::Room;
+use crate::run::run;
 use kv_base::{Sink, Source};
 use kv_disk::Disk;
 use kv_index::Index;
-use kv_session::{Ending, Session};
+use kv_session::{Ending, Session, SessionParts};
 use kv_worker::Worker;
 use std::alloc::Global;
 
@@ -27,8 +29,8 @@ pub struct Served<D, So, Si> {
 /// Serves a session from a worker whose store was just opened.
 pub fn serve_one<D: Disk + Drop, I: Index + Drop, So: Source + Drop, Si: Sink + Drop>(
     alloc: Global,
-    worker: Worker<D, I>,
-    session: Session<So, Si>,
+    mut worker: Worker<D, I>,
+    mut session: Session<So, Si>,
     room: Room,
 ) -> Served<D, So, Si>
     requires begins { (before : List Write) × (floor : ℕ)
@@ -49,6 +51,30 @@ pub fn serve_one<D: Disk + Drop, I: Index + Drop, So: Source + Drop, Si: Sink + 
         × Recovers ⟦<D as Disk>⟧ worker.store.disk.disk result.disk before (pairs_in groups)
         × (result.unsure ≡ any_unsure (pairs_in groups)) }
 {
-    let _ = (alloc, worker, session);
-    match room.never {}
+    let Room {
+        mut tasks,
+        mut batch,
+    } = room;
+    let mut counter = Counter::new(worker.highest() + 1);
+    run(
+        alloc,
+        &mut worker,
+        &mut counter,
+        &mut session,
+        &mut tasks,
+        &mut batch,
+    );
+    let unsure = worker.closed();
+    let SessionParts {
+        source,
+        sink,
+        ending,
+    } = session.into_parts();
+    Served {
+        disk: worker.into_disk(),
+        source,
+        sink,
+        ending: ending.unwrap(),
+        unsure,
+    }
 }

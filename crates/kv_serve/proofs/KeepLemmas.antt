@@ -1,0 +1,227 @@
+-- A group keeps what a run owes, whatever becomes of it.
+use Rattle.std.proofs.Common.{◌≡◌, ◌⊎◌, inl, inr, ℕ, zero, suc, ◌≤◌, List, [], ◌∷◌, ◌++◌, map}
+use Rattle.std.proofs.Common.{length, filter, Option, Some, None, Bool, true, false, cond, refl, sym}
+use Rattle.std.proofs.Common.{ap, subst, ◌∙◌, arith, IsTrue, IsSome, true≢false}
+use Rattle.std.specs.List.{AllByRecursion, flat_map}
+use Rattle.kv_base.specs.declared.cause.Cause.{Cause}
+use Rattle.kv_base.specs.declared.reply.Reply.{Reply}
+use Rattle.kv_base.specs.declared.request.Request.{Request}
+use Rattle.kv_base.specs.declared.request.Request.TheVariants.{Put, Get, Delete, Flush}
+use Rattle.kv_disk.specs.declared.disk.Disk as disks
+use Rattle.kv_index.specs.declared.index.Index as indexes
+use Rattle.kv_model.proofs.GroupLemmas.{with_group-flat}
+use Rattle.kv_model.proofs.PairwiseLemmas.{All-rest, All-map}
+use Rattle.kv_model.specs.Agreement.{WithRefusals}
+use Rattle.kv_model.specs.Batch.{IsTask}
+use Rattle.kv_model.specs.BatchLaws.{pairs_of}
+use Rattle.kv_model.specs.Groups.{Groups, groups_of, with_group, all_groups, has_reply}
+use Rattle.kv_model.specs.History.{Write}
+use Rattle.kv_model.specs.Layout.{all_classes}
+use Rattle.kv_model.specs.Pairs.{Pair, key_of, pairs_in, requests_of}
+use Rattle.kv_session.specs.Passage.{Streams, HasRead, IsLastGroup, with_pairs}
+use Rattle.kv_session.specs.Session.{SessionState}
+use Rattle.kv_worker.specs.Steps.{IsDone, IsRefused, HasFailed, HasOutcome as HasStepOutcome}
+use Rattle.kv_worker.specs.Worker.{WorkerView}
+use Rattle.kv_serve.specs.Laws.{RunLaws}
+use Rattle.kv_serve.specs.Outcome.{IsAhead, IsAlone, IsIdle, IsClosed, IsSpent, IsStepped, HasBatch}
+use Rattle.kv_serve.specs.Outcome.{HasOutcome, AnswersGroup}
+use Rattle.kv_serve.specs.Run.{HasRun}
+use Rattle.kv_serve.specs.declared.counter.Counter.{Counter}
+use Rattle.kv_serve.proofs.OwnLemmas.{batch-few, batch-refusals}
+use Rattle.kv_serve.proofs.StepLemmas.{AreFull, idle-run, closed-run, spent-run, done-run}
+use Rattle.kv_serve.proofs.StepLemmas.{refused-run, failed-run, steps-ahead}
+
+filtered : (test : Request → Bool) (requests : List Request)
+    → AllByRecursion (λ request. test request ≡ true) (filter test requests)
+filtered test [] = tt
+filtered test (request ∷ requests) = by (test request) refl (filtered test requests)
+  where
+    by : (b : Bool) → test request ≡ b
+        → AllByRecursion (λ r. test r ≡ true) (filter test requests)
+        → AllByRecursion (λ r. test r ≡ true) (cond b (request ∷ filter test requests)
+        (filter test requests))
+    by true e rest = (e, rest)
+    by false e rest = rest
+
+replied-keyed : (request : Request) → has_reply request ≡ true → IsSome (key_of request)
+replied-keyed (Put key value) e = refl
+replied-keyed (Get key) e = refl
+replied-keyed (Delete key) e = refl
+replied-keyed Flush e = absurd (true≢false (sym e))
+
+-- the groups of what was handled end with the one that was read last
+all-groups : (closing : Option Cause) (bytes rest : List ℕ) (ended : Bool) (now : Groups)
+    (groups : List (List Request)) (asked : List Request)
+    → IsLastGroup closing bytes rest ended now groups asked
+    → all_groups now ≡ with_group groups asked
+all-groups None bytes rest ended now groups asked last =
+    ap (with_group now.ended) last.1 ∙ last.0
+all-groups (Some cause) bytes rest ended now groups asked last =
+    ap (λ g. with_group g now.current) last.0 ∙ ap (with_group groups) last.1
+
+-- each request of a group is about a key
+pub asked-keyed : (laws : RunLaws) {So Si : Type 0} (streams : Streams So Si) (source : So)
+    (sink : Si) (groups : List (List Pair)) (asked : List Request) (now : SessionState So Si)
+    → HasRead streams source sink groups asked now
+    → AllByRecursion (λ request. IsSome (key_of request)) asked
+asked-keyed laws streams source sink groups asked now read =
+    let before : List (List Request) = map requests_of groups in
+    let parts : filter has_reply read.handled ≡ flat_map (λ group. group) before ++ asked =
+    sym (laws.groups.parts read.handled)
+    ∙ ap (flat_map (λ group. group)) (all-groups now.closing read.bytes now.waiting now.ended
+    (groups_of read.handled) before asked read.last)
+    ∙ with_group-flat before asked in
+    All-map (λ request. has_reply request ≡ true) (λ request. IsSome (key_of request)) asked
+    replied-keyed
+    (All-rest (λ request. has_reply request ≡ true) (flat_map (λ group. group) before) asked
+    (subst (AllByRecursion (λ request. has_reply request ≡ true)) parts
+    (filtered has_reply read.handled)))
+
+pairs-keyed : (requests : List Request) (replies : List Reply)
+    → AllByRecursion (λ request. IsSome (key_of request)) requests
+    → AllByRecursion (λ pair. IsSome (key_of pair.request)) (pairs_of requests replies)
+pairs-keyed [] replies all = tt
+pairs-keyed (request ∷ requests) [] all = tt
+pairs-keyed (request ∷ requests) (reply ∷ replies) all =
+    (all.0, pairs-keyed requests replies all.1)
+
+pub pairs-many : (requests : List Request) (replies : List Reply)
+    → length replies ≡ length requests → length (pairs_of requests replies) ≡ length requests
+pairs-many [] replies e = refl
+pairs-many (request ∷ requests) [] e = absurd (omega (arith, e))
+pairs-many (request ∷ requests) (reply ∷ replies) e =
+    ap suc (pairs-many requests replies (omega (arith, e)))
+
+with_pairs-push : (groups : List (List Pair)) (group : List Pair) → 1 ≤ length group
+    → with_pairs groups group ≡ groups ++ group ∷ []
+with_pairs-push groups [] some = absurd (omega (arith, some))
+with_pairs-push groups (pair ∷ group) some = refl
+
+with_pairs-none : (groups : List (List Pair)) (group : List Pair) → length group ≡ 0
+    → with_pairs groups group ≡ groups
+with_pairs-none groups [] none = refl
+with_pairs-none groups (pair ∷ group) none = absurd (omega (arith, none))
+
+-- the group has a batch, or nothing was done
+some-batch : {D I : Type 0} (d : disks.Ghosts D) (i : indexes.Ghosts I) (old new : WorkerView D I)
+    (from to : Counter) (requests : List Request) (given : List Reply)
+    → HasOutcome d i old new from to requests given
+    → ((new ≡ old) × (to ≡ from)) ⊎ (1 ≤ length requests)
+some-batch d i old new from to requests given (inl idle) = inl (idle.worker, idle.counter)
+some-batch d i old new from to requests given (inr (inl at)) = inr at.some
+some-batch d i old new from to requests given (inr (inr (inl at))) = inr at.some
+some-batch d i old new from to requests given (inr (inr (inr at))) = inr at.some
+
+pub outcome-alone : {D I : Type 0} (d : disks.Ghosts D) (i : indexes.Ghosts I)
+    (old new : WorkerView D I) (from to : Counter) (requests : List Request) (given : List Reply)
+    → HasOutcome d i old new from to requests given → IsAlone old → IsAlone new
+outcome-alone d i old new from to requests given (inl idle) alone =
+    subst IsAlone (sym idle.worker) alone
+outcome-alone d i old new from to requests given (inr (inl at)) alone =
+    subst IsAlone (sym at.worker) alone
+outcome-alone d i old new from to requests given (inr (inr (inl at))) alone =
+    subst IsAlone (sym at.worker) alone
+outcome-alone d i old new from to requests given (inr (inr (inr at))) alone =
+    record { first = at.steps.kept.0 ∙ alone.first; only = at.steps.kept.1 ∙ alone.only }
+
+same-ahead : {D I : Type 0} (old new : WorkerView D I) (from to : Counter) → new ≡ old
+    → to.next ≡ from.next → IsAhead old from → IsAhead new to
+same-ahead {D} {I} old new from to same next ahead = record {
+  above = omega (arith, ahead.above, next, ap (λ (w : WorkerView D I). w.highest) same);
+  limit = omega (arith, ahead.limit, next);
+}
+
+pub outcome-ahead : {D I : Type 0} (d : disks.Ghosts D) (i : indexes.Ghosts I)
+    (old new : WorkerView D I) (from to : Counter) (requests : List Request) (given : List Reply)
+    → HasOutcome d i old new from to requests given → IsAhead old from → IsAhead new to
+outcome-ahead d i old new from to requests given (inl idle) ahead =
+    same-ahead old new from to idle.worker (ap (λ (c : Counter). c.next) idle.counter) ahead
+outcome-ahead d i old new from to requests given (inr (inl at)) ahead =
+    same-ahead old new from to at.worker (ap (λ (c : Counter). c.next) at.counter) ahead
+outcome-ahead d i old new from to requests given (inr (inr (inl at))) ahead =
+    same-ahead old new from to at.worker (ap (λ (c : Counter). c.next) at.counter) ahead
+outcome-ahead d i old new from to requests given (inr (inr (inr at))) ahead =
+    steps-ahead d i old new from to requests given at.steps at.limit at.counter
+
+-- the run with a group that isn't empty
+run-push : {D I : Type 0} (laws : RunLaws) (d : disks.Ghosts D) (i : indexes.Ghosts I)
+    (first old new : WorkerView D I) (from to : Counter) (before : List Write) (floor : ℕ)
+    (groups : List (List Pair)) (group : List Pair) (requests : List Request) (given : List Reply)
+    → HasRun d i first old from before floor groups
+    → AllByRecursion (IsTask all_classes) requests → HasBatch (pairs_of requests given) group
+    → WithRefusals d.tells all_classes (pairs_of requests given) group
+    → length requests ≤ length group → length requests ≤ 64
+    → HasOutcome d i old new from to requests given
+    → (IsTrue d.tells → AreFull first.store.limits.slots before (pairs_in groups ++ group))
+    → HasRun d i first new to before floor (groups ++ group ∷ [])
+run-push laws d i first old new from to before floor groups group requests given run good has among
+    few most (inl idle) full =
+    idle-run laws d i first old new from to before floor groups group requests given run has among
+    idle full
+run-push laws d i first old new from to before floor groups group requests given run good has among
+    few most (inr (inl at)) full =
+    closed-run laws d i first old new from to before floor groups group requests given run good has
+    among at full
+run-push laws d i first old new from to before floor groups group requests given run good has among
+    few most (inr (inr (inl at))) full =
+    spent-run laws d i first old new from to before floor groups group requests given run good has
+    among few most at full
+run-push laws d i first old new from to before floor groups group requests given run good has among
+    few most (inr (inr (inr at))) full = by at.steps.outcome
+  where
+    by : HasStepOutcome d i old.store new.store requests from.next given
+        → HasRun d i first new to before floor (groups ++ group ∷ [])
+    by (inl done) =
+        done-run laws d i first old new from to before floor groups group requests given run good
+        has among few at done full
+    by (inr (inl refused)) =
+        refused-run laws d i first old new from to before floor groups group requests given run good
+        has among few at refused full
+    by (inr (inr failed)) =
+        failed-run laws d i first old new from to before floor groups group requests given run good
+        has among few at failed full
+
+-- a group that is answered keeps what a run owes
+pub run-goes_on : {D I : Type 0} (laws : RunLaws) (d : disks.Ghosts D) (i : indexes.Ghosts I)
+    (first old new : WorkerView D I) (from to : Counter) (before : List Write) (floor : ℕ)
+    (groups : List (List Pair)) (asked : List Request) (replies : List Reply)
+    → HasRun d i first old from before floor groups → length replies ≡ length asked
+    → length asked ≤ 64 → AllByRecursion (λ request. IsSome (key_of request)) asked
+    → AnswersGroup d i old new from to asked replies
+    → HasRun d i first new to before floor (with_pairs groups (pairs_of asked replies))
+run-goes_on {D} {I} laws d i first old new from to before floor groups asked replies run each most
+    keyed answers =
+    by (some-batch d i old new from to answers.requests answers.given answers.outcome)
+  where
+    group : List Pair
+    group = pairs_of asked replies
+
+    few : length answers.requests ≤ length group
+    few = omega (
+      arith,
+      batch-few group (pairs_of answers.requests answers.given) answers.batch,
+      pairs-many answers.requests answers.given answers.each,
+    )
+
+    pushed : 1 ≤ length group
+        → HasRun d i first new to before floor (with_pairs groups group)
+    pushed some = subst (HasRun d i first new to before floor)
+        (sym (with_pairs-push groups group some))
+        (run-push laws d i first old new from to before floor groups group answers.requests
+        answers.given run answers.good answers.batch
+        (batch-refusals d.tells group (pairs_of answers.requests answers.given)
+        (pairs-keyed asked replies keyed) answers.batch) few
+        (omega (arith, few, pairs-many asked replies each, most)) answers.outcome ?)
+
+    by : ((new ≡ old) × (to ≡ from)) ⊎ (1 ≤ length answers.requests)
+        → HasRun d i first new to before floor (with_pairs groups group)
+    by (inr some) = pushed (omega (arith, some, few))
+    by (inl same) = sized (length group) refl
+      where
+        sized : (n : ℕ) → length group ≡ n
+            → HasRun d i first new to before floor (with_pairs groups group)
+        sized zero none = subst (HasRun d i first new to before floor)
+            (sym (with_pairs-none groups group none))
+            (subst (λ c. HasRun d i first new c before floor groups) (sym same.1)
+            (subst (λ w. HasRun d i first w from before floor groups) (sym same.0) run))
+        sized (suc n) some = pushed (omega (arith, some))

@@ -1,0 +1,17 @@
+-- The laws that a run over a store stands on.
+use Rattle.kv_model.specs.BatchLaws.{StampsFollowRequests, StoreFollowsHistory, ToldAnswersAgree}
+use Rattle.kv_model.specs.BatchLaws.{FailedAnswersAgree, FailedAreUnsure}
+use Rattle.kv_model.specs.Groups.{GroupsHoldRequests}
+use Rattle.kv_model.specs.RunLaws.{RefusalsAgree, RefusalsAreSilent, PrefixesStay}
+
+-- what the definitions have of a batch behind a run, whatever the run is
+pub record RunLaws : Type 0 where
+  pub groups : GroupsHoldRequests
+  pub stamps : StampsFollowRequests
+  pub follows : StoreFollowsHistory
+  pub agree : ToldAnswersAgree
+  pub failed_agree : FailedAnswersAgree
+  pub failed : FailedAreUnsure
+  pub refusals_agree : RefusalsAgree
+  pub refusals : RefusalsAreSilent
+  pub prefixes : PrefixesStay

@@ -1,7 +1,7 @@
 -- Lemmas on what a session took and gave from its first byte on.
 use Rattle.std.proofs.Common.{◌≡◌, ℕ, ◌+◌, ◌<◌, ◌≤◌, Bool, true, false, cond, List, [], ◌∷◌, ◌++◌}
-use Rattle.std.proofs.Common.{length, map, fold, Option, None, Some, IfSome, inl, inr, refl, sym, ap}
-use Rattle.std.proofs.Common.{subst, ◌∙◌, arith, append_assoc, length-append}
+use Rattle.std.proofs.Common.{length, map, fold, Option, None, Some, IfSome, inl, inr, refl, sym}
+use Rattle.std.proofs.Common.{ap, subst, ◌∙◌, arith, append_assoc, length-append}
 use Rattle.std.specs.List.{AllByRecursion, flat_map}
 use Rattle.std.proofs.lemmas.Grind.{flat_map-append, fold-append}
 use Rattle.std.proofs.lemmas.List.{append-nil, map-append}
@@ -226,8 +226,8 @@ Leaves-none Limit taken rest ended closing left ends none = none
 Leaves-none SourceFault taken rest ended closing left ends none = none
 Leaves-none SinkFault taken rest ended closing left ends none = absurd ends
 
-pub source_counted-read : (cause : Cause) (taken rest : List ℕ) (ended : Bool) (closing : List Reply)
-    (before now : ℕ) → EndsReading cause taken rest ended closing
+pub source_counted-read : (cause : Cause) (taken rest : List ℕ) (ended : Bool)
+    (closing : List Reply) (before now : ℕ) → EndsReading cause taken rest ended closing
     → now ≡ source_faults_for cause before → HasSourceCount cause before now
 source_counted-read End taken rest ended closing before now ends is = is
 source_counted-read (Malformed offset) taken rest ended closing before now ends is = is

@@ -115,7 +115,8 @@ pub record HasEnded {So Si : Type 0} (streams : Streams So Si) (source : So) (si
   pub cause_is : ending.cause ≡ cause
   pub session : HasSession streams source now.source sink now.sink ending groups
 
--- behind the replies to a group the session goes on where reading does, and has ended where that has
+-- behind the replies to a group the session goes on where reading does, and has ended where that
+-- has
 abbrev pub Follows : {So Si : Type 0} → Streams So Si → So → Si → List (List Pair) → Option Cause
     → SessionState So Si → Type 0
 Follows streams source sink groups None now = HasRead streams source sink groups [] now

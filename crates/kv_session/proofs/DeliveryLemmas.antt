@@ -13,11 +13,10 @@ use Rattle.kv_base.specs.Stream.{Passes, IsSpent, Takes}
 use Rattle.kv_base.proofs.StreamLemmas.{Takes-trans}
 use Rattle.kv_model.specs.BatchLaws.{pairs_of}
 use Rattle.kv_model.specs.Frames.{HasReplyFrame, BeginsWithRequests}
-use Rattle.kv_model.specs.Groups.{Groups, with_group, all_groups, last_group, groups_of}
+use Rattle.kv_model.specs.Groups.{with_group, last_group, groups_of}
 use Rattle.kv_model.specs.Pairs.{Pair, requests_of, replies_in}
-use Rattle.kv_model.specs.Transcript.{GoesOut, EndsReading, Closes, HasTranscript}
+use Rattle.kv_model.specs.Transcript.{GoesOut, HasTranscript}
 use Rattle.kv_model.proofs.PairwiseLemmas.{All-append}
-use Rattle.kv_session.specs.declared.ending.Ending.{Ending}
 use Rattle.kv_session.specs.Outgoing.{replies_behind, cause_behind}
 use Rattle.kv_session.specs.Session.{SessionState, KeepsReading}
 use Rattle.kv_session.specs.Passage.{Streams, source_faults_at, sink_faults_for, HasSourceCount}

@@ -1,20 +1,19 @@
 -- Lemmas on replies on their way to a sink.
-use Rattle.std.proofs.Common.{◌≡◌, ℕ, zero, suc, ◌+◌, ◌-◌, ◌<◌, ◌≤◌, Bool, true, false, cond, eqb}
-use Rattle.std.proofs.Common.{ltb, List, [], ◌∷◌, ◌++◌, length, take, drop, reverse, Option, None}
+use Rattle.std.proofs.Common.{◌≡◌, ℕ, zero, suc, ◌+◌, ◌-◌, ◌<◌, ◌≤◌, Bool, true, eqb}
+use Rattle.std.proofs.Common.{List, [], ◌∷◌, ◌++◌, length, take, drop, reverse, Option, None}
 use Rattle.std.proofs.Common.{Some, IsSome, is_some, ◌↔◌, inl, inr, refl, sym, ap, subst, ◌∙◌}
 use Rattle.std.proofs.Common.{arith, append_assoc, length-append}
 use Rattle.std.specs.Option.{option_to_list}
 use Rattle.std.specs.List.{AllByRecursion, flat_map}
-use Rattle.std.proofs.lemmas.Bool.{cases_lt, eq-eqb, ne_eqb, cond-true, cond-false, lt-ltb, le-ltb}
+use Rattle.std.proofs.lemmas.Bool.{cases_lt, eq-eqb, ne_eqb}
 use Rattle.std.proofs.lemmas.Bool.{false≢true}
 use Rattle.std.proofs.lemmas.Grind.{flat_map-append}
 use Rattle.std.proofs.lemmas.List.{append-nil, take-append-drop, take-append-le, length-drop}
 use Rattle.std.proofs.lemmas.List.{drop-append-le, drop_at, drop_all, drop-drop, reverse-append}
 use Rattle.std.proofs.Math.Seq.{take-append-add}
 use Rattle.kv_base.specs.declared.reply.Reply.{Reply}
-use Rattle.kv_base.specs.Calls.{next_count}
-use Rattle.kv_base.specs.Pieces.{AreEnds, IsUpTo, CountedPieces}
-use Rattle.kv_model.specs.Frames.{HasReplyFrame, reply_frame}
+use Rattle.kv_base.specs.Pieces.{AreEnds, IsUpTo}
+use Rattle.kv_model.specs.Frames.{reply_frame}
 use Rattle.kv_model.specs.Transcript.{GoesOut, IsPart}
 use Rattle.kv_session.specs.Outgoing.{Framed, ends_from, HoldsFrames, AddsFrame, HoldsFirst}
 use Rattle.kv_session.specs.Outgoing.{HaveGone, Sends}

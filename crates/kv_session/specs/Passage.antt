@@ -1,5 +1,5 @@
 -- What a session took and gave, from its first byte on.
-use Rattle.std.specs.Prelude.{◌≡◌, ◌⊎◌, ℕ, ◌<◌, ◌≤◌, List, [], ◌∷◌, ◌++◌, length, map, Option}
+use Rattle.std.specs.Prelude.{◌≡◌, ◌⊎◌, ℕ, List, [], ◌∷◌, ◌++◌, length, map, Option}
 use Rattle.std.specs.Prelude.{None, Some, Bool, true, false}
 use Rattle.std.specs.List.{AllByRecursion, flat_map}
 use Rattle.kv_base.specs.Calls.{next_count}
@@ -9,7 +9,6 @@ use Rattle.kv_base.specs.declared.cause.Cause.TheVariants.{End, Malformed, Limit
 use Rattle.kv_base.specs.declared.cause.Cause.TheVariants.{SinkFault}
 use Rattle.kv_base.specs.declared.reply.Reply.{Reply}
 use Rattle.kv_base.specs.declared.request.Request.{Request}
-use Rattle.kv_model.specs.BatchLaws.{pairs_of}
 use Rattle.kv_model.specs.Frames.{HasReplyFrame, reply_frame, BeginsWithRequests}
 use Rattle.kv_model.specs.Groups.{Groups, groups_of, with_group}
 use Rattle.kv_model.specs.Pairs.{Pair, requests_of, replies_in}

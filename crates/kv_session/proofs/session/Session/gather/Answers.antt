@@ -1,4 +1,4 @@
-use Rattle.std.proofs.Common.{[], None, ap, subst, sym, ◌∙◌, refl}
+use Rattle.std.proofs.Common.{[], ap, subst, sym, ◌∙◌, refl}
 use Rattle.kv_session.specs.Passage.{Streams, HasRead}
 use Rattle.kv_session.specs.Session.{SessionState}
 use Rattle.kv_session.proofs.PassageLemmas.{HasRead-group}

@@ -1,6 +1,6 @@
 -- Lemmas on a session behind the replies to the group that it read last.
-use Rattle.std.proofs.Common.{◌≡◌, ℕ, ◌+◌, ◌≤◌, Bool, true, false, cond, List, [], ◌++◌, length, map}
-use Rattle.std.proofs.Common.{Option, None, Some, inl, inr, refl, sym, ap, subst, ◌∙◌, arith}
+use Rattle.std.proofs.Common.{◌≡◌, ℕ, ◌+◌, ◌≤◌, Bool, true, false, cond, List, [], ◌++◌, length}
+use Rattle.std.proofs.Common.{map, Option, None, Some, inl, inr, refl, sym, ap, subst, ◌∙◌, arith}
 use Rattle.std.proofs.Common.{append_assoc, length-append}
 use Rattle.std.specs.List.{AllByRecursion}
 use Rattle.std.proofs.lemmas.List.{append-nil}
@@ -13,11 +13,10 @@ use Rattle.kv_base.specs.Stream.{Passes, IsSpent, Takes}
 use Rattle.kv_base.proofs.StreamLemmas.{Takes-trans}
 use Rattle.kv_model.specs.BatchLaws.{pairs_of}
 use Rattle.kv_model.specs.Frames.{HasReplyFrame, BeginsWithRequests}
-use Rattle.kv_model.specs.Groups.{Groups, with_group, all_groups, last_group, groups_of}
+use Rattle.kv_model.specs.Groups.{with_group, last_group, groups_of}
 use Rattle.kv_model.specs.Pairs.{Pair, requests_of, replies_in}
-use Rattle.kv_model.specs.Transcript.{GoesOut, EndsReading, Closes, HasTranscript}
+use Rattle.kv_model.specs.Transcript.{GoesOut, HasTranscript}
 use Rattle.kv_model.proofs.PairwiseLemmas.{All-append}
-use Rattle.kv_session.specs.declared.ending.Ending.{Ending}
 use Rattle.kv_session.specs.Outgoing.{replies_behind, cause_behind}
 use Rattle.kv_session.specs.Session.{SessionState, KeepsReading}
 use Rattle.kv_session.specs.Passage.{Streams, source_faults_at, sink_faults_for, HasSourceCount}
@@ -305,8 +304,8 @@ pub Delivers-sent : {So Si : Type 0} (streams : Streams So Si) (source : So) (si
     → EndsAs (cause_behind whole viewed.closing) left new.taken new.ending
     → Delivers streams source sink (with_pairs groups (pairs_of asked replies)) old.closing new
     whole
-Delivers-sent {So = So} {Si = Si} streams source sink groups asked replies viewed old new loaded left
-    given whole is each read kept loaded_is have took goes all some counted ends =
+Delivers-sent {So = So} {Si = Si} streams source sink groups asked replies viewed old new loaded
+    left given whole is each read kept loaded_is have took goes all some counted ends =
     let at = ap (λ (s : SessionState So Si). s.closing) is in
     delivers streams source sink groups asked replies viewed new given left each
     (subst (λ (s : SessionState So Si). HasRead streams source sink groups asked s) (sym is) read)

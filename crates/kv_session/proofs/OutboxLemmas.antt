@@ -1,17 +1,16 @@
 -- Lemmas on the loops over a session's outbox.
-use Rattle.std.proofs.Common.{◌≡◌, ℕ, ◌+◌, ◌<◌, ◌≤◌, Bool, true, false, List, [], ◌∷◌, ◌++◌, length, map}
-use Rattle.std.proofs.Common.{reverse, Option, None, Some, IsSome, refl, sym, ap, subst, ◌∙◌, arith}
+use Rattle.std.proofs.Common.{◌≡◌, ℕ, ◌+◌, ◌<◌, ◌≤◌, true, List, [], ◌∷◌, ◌++◌}
+use Rattle.std.proofs.Common.{length, map, reverse, Option, Some, IsSome, refl, sym, ap}
+use Rattle.std.proofs.Common.{subst, ◌∙◌, arith}
 use Rattle.std.proofs.Common.{append_assoc, length-append}
 use Rattle.std.specs.List.{AllByRecursion, IsLastAndRest}
-use Rattle.std.proofs.lemmas.List.{length-reverse, append-nil}
 use Rattle.kv_base.specs.declared.reply.Reply.{Reply}
 use Rattle.kv_base.specs.Reserved.{Reserved}
 use Rattle.kv_base.specs.Stream.{Takes}
-use Rattle.kv_base.proofs.StreamLemmas.{Takes-nil, Takes-trans}
+use Rattle.kv_base.proofs.StreamLemmas.{Takes-trans}
 use Rattle.kv_model.specs.Frames.{HasReplyFrame}
-use Rattle.kv_model.specs.Transcript.{GoesOut}
 use Rattle.kv_ring.specs.declared.task.Task.{Task}
-use Rattle.kv_session.specs.Outgoing.{Framed, HoldsFrames, AddsFrame, HoldsFirst, HaveGone, Sends}
+use Rattle.kv_session.specs.Outgoing.{Framed, HoldsFrames, AddsFrame, HaveGone}
 use Rattle.kv_session.specs.Tasks.{HaveReplies}
 use Rattle.kv_session.proofs.OutgoingLemmas.{HoldsFrames-more, HoldsFrames-length}
 use Rattle.kv_session.proofs.OutgoingLemmas.{HaveGone-trans, All-behind}

@@ -1,20 +1,19 @@
 -- Lemmas on replies on their way to a sink.
-use Rattle.std.proofs.Common.{◌≡◌, ℕ, zero, suc, ◌+◌, ◌-◌, ◌<◌, ◌≤◌, Bool, true, false, cond, eqb}
-use Rattle.std.proofs.Common.{ltb, List, [], ◌∷◌, ◌++◌, length, take, drop, reverse, Option, None}
-use Rattle.std.proofs.Common.{Some, IsSome, is_some, ◌↔◌, inl, inr, refl, sym, ap, subst, ◌∙◌, arith}
-use Rattle.std.proofs.Common.{append_assoc, length-append}
+use Rattle.std.proofs.Common.{◌≡◌, ℕ, zero, suc, ◌+◌, ◌-◌, ◌<◌, ◌≤◌, Bool, true, eqb}
+use Rattle.std.proofs.Common.{List, [], ◌∷◌, ◌++◌, length, take, drop, reverse, Option, None}
+use Rattle.std.proofs.Common.{Some, IsSome, is_some, ◌↔◌, inl, inr, refl, sym, ap, subst, ◌∙◌}
+use Rattle.std.proofs.Common.{arith, append_assoc, length-append}
 use Rattle.std.specs.Option.{option_to_list}
 use Rattle.std.specs.List.{AllByRecursion, flat_map}
-use Rattle.std.proofs.lemmas.Bool.{cases_lt, eq-eqb, ne_eqb, cond-true, cond-false, lt-ltb, le-ltb}
+use Rattle.std.proofs.lemmas.Bool.{cases_lt, eq-eqb, ne_eqb}
 use Rattle.std.proofs.lemmas.Bool.{false≢true}
 use Rattle.std.proofs.lemmas.Grind.{flat_map-append}
 use Rattle.std.proofs.lemmas.List.{append-nil, take-append-drop, take-append-le, length-drop}
 use Rattle.std.proofs.lemmas.List.{drop-append-le, drop_at, drop_all, drop-drop, reverse-append}
 use Rattle.std.proofs.Math.Seq.{take-append-add}
 use Rattle.kv_base.specs.declared.reply.Reply.{Reply}
-use Rattle.kv_base.specs.Calls.{next_count}
-use Rattle.kv_base.specs.Pieces.{AreEnds, IsUpTo, CountedPieces}
-use Rattle.kv_model.specs.Frames.{HasReplyFrame, reply_frame}
+use Rattle.kv_base.specs.Pieces.{AreEnds, IsUpTo}
+use Rattle.kv_model.specs.Frames.{reply_frame}
 use Rattle.kv_model.specs.Transcript.{GoesOut, IsPart}
 use Rattle.kv_session.specs.Outgoing.{Framed, ends_from, HoldsFrames, AddsFrame, HoldsFirst}
 use Rattle.kv_session.specs.Outgoing.{HaveGone, Sends}
@@ -54,16 +53,17 @@ HoldsFrames-more old new replies reply holds adds =
     let size : ℕ = length (reply_frame reply) in
     let at : length (frames_of replies) + size ≡ 0 + length (frames_of replies) + size =
     omega arith in record {
-  bytes = adds.0 ∙ ap (λ (bytes : List ℕ). bytes ++ reply_frame reply) holds.bytes
-      ∙ ap (λ (frame : List ℕ). frames_of replies ++ frame) (sym (append-nil (reply_frame reply)))
-      ∙ sym (flat_map-append reply_frame replies (reply ∷ []));
-  ends = adds.1
-      ∙ ap (λ (ends : List ℕ). ends ++ (length old.bytes + length (reply_frame reply)) ∷ [])
-      holds.ends
-      ∙ ap (λ (bytes : List ℕ). ends_from 0 replies ++ (length bytes + size) ∷ []) holds.bytes
-      ∙ ap (λ (end : ℕ). ends_from 0 replies ++ end ∷ []) at
-      ∙ sym (ends_from-more 0 replies reply);
-}
+      bytes = adds.0 ∙ ap (λ (bytes : List ℕ). bytes ++ reply_frame reply) holds.bytes
+          ∙ ap (λ (frame : List ℕ). frames_of replies ++ frame)
+          (sym (append-nil (reply_frame reply)))
+          ∙ sym (flat_map-append reply_frame replies (reply ∷ []));
+      ends = adds.1
+          ∙ ap (λ (ends : List ℕ). ends ++ (length old.bytes + length (reply_frame reply)) ∷ [])
+          holds.ends
+          ∙ ap (λ (bytes : List ℕ). ends_from 0 replies ++ (length bytes + size) ∷ []) holds.bytes
+          ∙ ap (λ (end : ℕ). ends_from 0 replies ++ end ∷ []) at
+          ∙ sym (ends_from-more 0 replies reply);
+    }
 
 -- there is one end for each reply
 pub length-ends_from : (from : ℕ) (replies : List Reply)
@@ -104,6 +104,21 @@ take-nothing : (n : ℕ) → take {A = ℕ} n [] ≡ []
 take-nothing zero = refl
 take-nothing (suc n) = refl
 
+-- the front of a frame and others is that frame, where it reaches so far, and a front of the others
+front_behind : (frame rest front : List ℕ) (n more : ℕ) → n ≡ length frame + more
+    → take more rest ≡ front → take n (frame ++ rest) ≡ frame ++ front
+front_behind frame rest front n more is behind =
+    ap (λ (k : ℕ). take k (frame ++ rest)) is ∙ take-append-add frame rest more
+    ∙ ap (λ (bytes : List ℕ). frame ++ bytes) behind
+
+-- a front of a frame that isn't all of it is a part of it
+front_part : (frame rest : List ℕ) (n : ℕ) → n < length frame
+    → frame ≡ take n (frame ++ rest) ++ drop n frame
+front_part frame rest n less =
+    sym (take-append-drop n frame)
+    ∙ ap (λ (bytes : List ℕ). bytes ++ drop n frame)
+    (sym (take-append-le n frame rest (omega (arith, less))))
+
 -- so many pieces that were taken whole, and a part of the next one, are replies that went out
 pub goes_out : (from : ℕ) (replies : List Reply) (whole sent n : ℕ)
     → IsUpTo from (ends_from from replies) whole sent → sent ≡ from + n
@@ -112,31 +127,26 @@ goes_out from [] zero sent n up_to is = ([], [], refl, take-nothing n, refl)
 goes_out from [] (suc whole) sent n up_to is = absurd up_to
 goes_out from (reply ∷ replies) zero sent n up_to is =
     let frame : List ℕ = reply_frame reply in
+    let rest : List ℕ = frames_of replies in
     let less : n < length frame = omega (arith, up_to.1, is) in (
       [],
-      take n (frame ++ frames_of replies),
+      take n (frame ++ rest),
       refl,
       refl,
-      (
-        drop n frame,
-        omega (arith, length-drop n frame, less),
-        sym (take-append-drop n frame) ∙ ap (λ (bytes : List ℕ). bytes ++ drop n frame)
-            (sym (take-append-le n frame (frames_of replies) (omega (arith, less)))),
-      ),
+      (drop n frame, omega (arith, length-drop n frame, less), front_part frame rest n less),
     )
 goes_out from (reply ∷ replies) (suc whole) sent n up_to is =
     let frame : List ℕ = reply_frame reply in
     let size : ℕ = length frame in
     let rest : List ℕ = frames_of replies in
     let low = up_to-low (from + size) replies whole sent up_to in
-    let n_is : n ≡ size + (n - size) = omega (arith, low, is) in
-    let next = goes_out (from + size) replies whole sent (n - size) up_to (omega (arith, low, is)) in (
+    let next = goes_out (from + size) replies whole sent (n - size) up_to
+    (omega (arith, low, is)) in (
       reply ∷ next.0,
       next.1,
       ap (λ (replies : List Reply). reply ∷ replies) next.2,
-      ap (λ (k : ℕ). take k (frame ++ rest)) n_is ∙ take-append-add frame rest (n - size)
-          ∙ ap (λ (bytes : List ℕ). frame ++ bytes) next.3
-          ∙ sym (append_assoc frame (frames_of next.0) next.1),
+      front_behind frame rest (frames_of next.0 ++ next.1) n (n - size) (omega (arith, low, is))
+          next.3 ∙ sym (append_assoc frame (frames_of next.0) next.1),
       next.4,
     )
 

@@ -1,8 +1,7 @@
 -- Lemmas on what a session took and gave from its first byte on.
-use Rattle.std.proofs.Common.{◌≡◌, ℕ, ◌+◌, ◌<◌, ◌≤◌, Bool, true, false, cond, List, [], ◌∷◌, ◌++◌}
-use Rattle.std.proofs.Common.{length, map, fold, Option, None, Some, IfSome, inl, inr, refl, sym, ap}
-use Rattle.std.proofs.Common.{subst, ◌∙◌, arith, append_assoc, length-append}
-use Rattle.std.specs.List.{AllByRecursion, flat_map}
+use Rattle.std.proofs.Common.{◌≡◌, ℕ, ◌≤◌, Bool, true, List, [], ◌∷◌, ◌++◌}
+use Rattle.std.proofs.Common.{length, map, fold, Option, None, Some, IfSome, inl, inr, refl, sym}
+use Rattle.std.proofs.Common.{ap, subst, ◌∙◌, arith, length-append}
 use Rattle.std.proofs.lemmas.Grind.{flat_map-append, fold-append}
 use Rattle.std.proofs.lemmas.List.{append-nil, map-append}
 use Rattle.kv_base.specs.declared.cause.Cause.{Cause}
@@ -10,26 +9,20 @@ use Rattle.kv_base.specs.declared.cause.Cause.TheVariants.{End, Malformed, Limit
 use Rattle.kv_base.specs.declared.cause.Cause.TheVariants.{SinkFault}
 use Rattle.kv_base.specs.declared.reply.Reply.{Reply}
 use Rattle.kv_base.specs.declared.request.Request.{Request}
-use Rattle.kv_base.specs.Calls.{next_count}
-use Rattle.kv_base.specs.Stream.{Passes, IsSpent, Takes}
-use Rattle.kv_base.proofs.StreamLemmas.{Passes-nil, Passes-trans, Takes-nil, Takes-trans}
+use Rattle.kv_base.specs.Stream.{IsSpent, Takes}
+use Rattle.kv_base.proofs.StreamLemmas.{Passes-nil, Passes-trans, Takes-nil}
 use Rattle.kv_model.specs.BatchLaws.{pairs_of}
-use Rattle.kv_model.specs.Frames.{HasReplyFrame, reply_frame, BeginsWithRequests}
-use Rattle.kv_model.specs.Groups.{Groups, no_groups, with_group, all_groups, last_group}
+use Rattle.kv_model.specs.Groups.{Groups, no_groups, with_group, last_group}
 use Rattle.kv_model.specs.Groups.{next_groups, groups_of}
 use Rattle.kv_model.specs.Pairs.{Pair, requests_of, pairs_in, replies_in}
-use Rattle.kv_model.specs.Transcript.{GoesOut, EndsReading, Closes, Leaves, HasTranscript}
-use Rattle.kv_model.proofs.PairwiseLemmas.{All-append}
+use Rattle.kv_model.specs.Transcript.{EndsReading, Closes, Leaves}
 use Rattle.kv_session.specs.declared.ending.Ending.{Ending}
 use Rattle.kv_session.specs.Reading.{ReaderState, closing_for, EndsFor}
 use Rattle.kv_session.specs.Group.{ReadsGroup, ended_groups, groups_behind}
-use Rattle.kv_session.specs.Outgoing.{replies_behind, cause_behind}
-use Rattle.kv_session.specs.Session.{SessionState, IsNew, KeepsReading}
+use Rattle.kv_session.specs.Session.{SessionState, IsNew}
 use Rattle.kv_session.specs.Passage.{Streams, source_faults_for, source_faults_at, sink_faults_for}
-use Rattle.kv_session.specs.Passage.{HasSourceCount, with_pairs, IsLastGroup, HasRead, HasEnded}
-use Rattle.kv_session.specs.Passage.{Follows, Delivers}
+use Rattle.kv_session.specs.Passage.{HasSourceCount, with_pairs, IsLastGroup, HasRead}
 use Rattle.kv_session.proofs.GroupLemmas.{BeginsWithRequests-append}
-use Rattle.kv_session.proofs.OutgoingLemmas.{HaveGone-goes}
 
 -- ---- reading
 
@@ -226,8 +219,8 @@ Leaves-none Limit taken rest ended closing left ends none = none
 Leaves-none SourceFault taken rest ended closing left ends none = none
 Leaves-none SinkFault taken rest ended closing left ends none = absurd ends
 
-pub source_counted-read : (cause : Cause) (taken rest : List ℕ) (ended : Bool) (closing : List Reply)
-    (before now : ℕ) → EndsReading cause taken rest ended closing
+pub source_counted-read : (cause : Cause) (taken rest : List ℕ) (ended : Bool)
+    (closing : List Reply) (before now : ℕ) → EndsReading cause taken rest ended closing
     → now ≡ source_faults_for cause before → HasSourceCount cause before now
 source_counted-read End taken rest ended closing before now ends is = is
 source_counted-read (Malformed offset) taken rest ended closing before now ends is = is

@@ -1,11 +1,11 @@
 -- Lemmas on the bytes that a session takes.
-use Rattle.std.proofs.Common.{◌≡◌, ℕ, ◌+◌, ◌≤◌, take, drop, false, List, [], ◌++◌, length, Option}
+use Rattle.std.proofs.Common.{◌≡◌, ℕ, ◌+◌, ◌≤◌, take, drop, false, List, ◌++◌, length, Option}
 use Rattle.std.proofs.Common.{refl, sym, ap, subst, ◌∙◌, arith, append_assoc, length-append}
-use Rattle.std.proofs.lemmas.List.{append-nil, take_at, drop_at, take-take, take-append-drop}
+use Rattle.std.proofs.lemmas.List.{take_at, drop_at, take-take, take-append-drop}
 use Rattle.std.proofs.lemmas.List.{take-append-le, drop-take, drop-append-le, length-take-le}
 use Rattle.std.proofs.lemmas.List.{length-take, length-drop}
 use Rattle.kv_base.specs.Stream.{Stream}
-use Rattle.kv_base.proofs.StreamLemmas.{Passes-nil, Passes-trans}
+use Rattle.kv_base.proofs.StreamLemmas.{Passes-trans}
 use Rattle.kv_model.specs.Frames.{BeginsWithNoRequest, IsMalformed}
 use Rattle.kv_session.specs.Reading.{ReaderState, Arrives, NeedsMore, StaysDecided}
 

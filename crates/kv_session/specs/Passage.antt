@@ -1,5 +1,5 @@
 -- What a session took and gave, from its first byte on.
-use Rattle.std.specs.Prelude.{◌≡◌, ◌⊎◌, ℕ, ◌<◌, ◌≤◌, List, [], ◌∷◌, ◌++◌, length, map, Option}
+use Rattle.std.specs.Prelude.{◌≡◌, ◌⊎◌, ℕ, List, [], ◌∷◌, ◌++◌, length, map, Option}
 use Rattle.std.specs.Prelude.{None, Some, Bool, true, false}
 use Rattle.std.specs.List.{AllByRecursion, flat_map}
 use Rattle.kv_base.specs.Calls.{next_count}
@@ -9,7 +9,6 @@ use Rattle.kv_base.specs.declared.cause.Cause.TheVariants.{End, Malformed, Limit
 use Rattle.kv_base.specs.declared.cause.Cause.TheVariants.{SinkFault}
 use Rattle.kv_base.specs.declared.reply.Reply.{Reply}
 use Rattle.kv_base.specs.declared.request.Request.{Request}
-use Rattle.kv_model.specs.BatchLaws.{pairs_of}
 use Rattle.kv_model.specs.Frames.{HasReplyFrame, reply_frame, BeginsWithRequests}
 use Rattle.kv_model.specs.Groups.{Groups, groups_of, with_group}
 use Rattle.kv_model.specs.Pairs.{Pair, requests_of, replies_in}
@@ -115,7 +114,8 @@ pub record HasEnded {So Si : Type 0} (streams : Streams So Si) (source : So) (si
   pub cause_is : ending.cause ≡ cause
   pub session : HasSession streams source now.source sink now.sink ending groups
 
--- behind the replies to a group the session goes on where reading does, and has ended where that has
+-- behind the replies to a group the session goes on where reading does, and has ended where that
+-- has
 abbrev pub Follows : {So Si : Type 0} → Streams So Si → So → Si → List (List Pair) → Option Cause
     → SessionState So Si → Type 0
 Follows streams source sink groups None now = HasRead streams source sink groups [] now

@@ -1,5 +1,5 @@
 -- A session as its callers see it.
-use Rattle.std.specs.Prelude.{◌≡◌, ℕ, List, [], Option, None, Some, Bool, false, ⊤}
+use Rattle.std.specs.Prelude.{◌≡◌, ℕ, List, [], Option, None, Some, Bool, false}
 use Rattle.kv_base.specs.declared.cause.Cause.{Cause}
 use Rattle.kv_session.specs.declared.ending.Ending.{Ending}
 use Rattle.kv_session.specs.declared.gathered.Gathered.{Gathered}

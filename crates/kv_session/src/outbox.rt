@@ -87,8 +87,8 @@ impl Outbox {
         self.take_replies(tasks);
     }
 
-    /// Puts the replies of all tasks before the others, and takes the tasks off their list. Takes no
-    /// memory.
+    /// Puts the replies of all tasks before the others, and takes the tasks off their list. Takes
+    /// no memory.
     pub fn take_replies(&mut self, tasks: &mut Tasks)
         requires answered { (replies : List ReplyOf) × HaveReplies tasks.old.items replies }
         requires room { length tasks.old.items ≤ self.old.spare }
@@ -103,8 +103,8 @@ impl Outbox {
         }
     }
 
-    /// Writes the frames of all replies: in one call of the sink where they fit into the buffer, and
-    /// in more calls only for those that don't. It answers whether all went out; where the sink
+    /// Writes the frames of all replies: in one call of the sink where they fit into the buffer,
+    /// and in more calls only for those that don't. It answers whether all went out; where the sink
     /// failed, those that it didn't take whole are left. Takes no memory.
     pub fn send<Si: Sink>(&mut self, sink: &mut Si) -> bool
         requires framed { AllByRecursion HasReplyFrame self.old.items }

@@ -84,8 +84,8 @@ impl Pieces {
         true
     }
 
-    /// Writes all frames in one call of the sink. It answers how many went out whole: fewer than all
-    /// only where the sink failed.
+    /// Writes all frames in one call of the sink. It answers how many went out whole: fewer than
+    /// all only where the sink failed.
     pub fn write_to<Si: Sink>(&self, sink: &mut Si) -> usize
         requires { (replies : List ReplyOf) × HoldsFrames self.now replies }
         ensures some { result ≤ length self.now.ends }

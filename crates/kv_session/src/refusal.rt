@@ -27,7 +27,11 @@ pub fn refusal(view: &RequestView<'_>) -> Option<Reply>
             None
         }
         RequestView::Get { key } | RequestView::Delete { key } => {
-            if is_key(key) { None } else { Some(Reply::BadKey) }
+            if is_key(key) {
+                None
+            } else {
+                Some(Reply::BadKey)
+            }
         }
         RequestView::Flush => None,
     }

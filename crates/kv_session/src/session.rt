@@ -21,7 +21,8 @@ use kv_ring::Tasks;
 use std::alloc::Global;
 use std::marker::Model;
 
-/// A client: its bytes come from a source, and the replies go to a sink. It takes at most 2^40 bytes.
+/// A client: its bytes come from a source, and the replies go to a sink. It takes at most 2^40
+/// bytes.
 #[derive(Drop)]
 pub struct Session<So: Source, Si: Sink> {
     alloc: Global,
@@ -52,8 +53,8 @@ impl<So: Source, Si: Sink> Model for Session<So, Si> {
 }
 
 impl<So: Source + Drop, Si: Sink + Drop> Session<So, Si> {
-    /// A session that took no byte so far. Takes the buffers for its frames and its replies; want of
-    /// memory hands source and sink back.
+    /// A session that took no byte so far. Takes the buffers for its frames and its replies; want
+    /// of memory hands source and sink back.
     pub fn new(alloc: Global, source: So, sink: Si) -> Result<Session<So, Si>, (So, Si, NoMemory)>
         ensures ok { IfOk result (λ session. IsNew session × (session.source ≡ source)
             × (session.sink ≡ sink)) }
@@ -81,9 +82,9 @@ impl<So: Source + Drop, Si: Sink + Drop> Session<So, Si> {
         }
     }
 
-    /// Reads a group: its requests of good sizes, each copied, and the replies to the others. It has
-    /// 64 requests at most, and a Flush ends it, which is used up. `tasks` is empty and has room for
-    /// them.
+    /// Reads a group: its requests of good sizes, each copied, and the replies to the others. It
+    /// has 64 requests at most, and a Flush ends it, which is used up. `tasks` is empty and has
+    /// room for them.
     pub fn gather(&mut self, tasks: &mut Tasks) -> Gathered
         requires empty { tasks.old.items ≡ [] }
         requires room { 64 ≤ tasks.old.spare }
@@ -118,10 +119,10 @@ impl<So: Source + Drop, Si: Sink + Drop> Session<So, Si> {
         }
     }
 
-    /// Writes the replies to the group that was read last, and behind them, where that has ended the
-    /// session as malformed, the reply that says so. They are handed on: the list is empty then. The
-    /// answer is whether all went out whole; the sink's count of faults shows where not, the session
-    /// has ended, and its ending has what is left. Takes no memory.
+    /// Writes the replies to the group that was read last, and behind them, where that has ended
+    /// the session as malformed, the reply that says so. They are handed on: the list is empty
+    /// then. The answer is whether all went out whole; the sink's count of faults shows where not,
+    /// the session has ended, and its ending has what is left. Takes no memory.
     pub fn deliver(&mut self, tasks: &mut Tasks) -> bool
         requires answered { (replies : List ReplyOf) × HaveReplies tasks.old.items replies
             × AllByRecursion HasReplyFrame replies }

@@ -28,7 +28,8 @@ const ONE_AND_PART: &[u8] = b"\x09\0\0\0\x81a\0\0\0\0\0\0\0\x09\0\0\0\x83b\0";
 // Missing b, then Malformed 6.
 const MISSING_MALFORMED: &[u8] = b"\x09\0\0\0\x83b\0\0\0\0\0\0\0\x09\0\0\0\xE9\x06\0\0\0\0\0\0\0";
 
-// An input, the sizes of its groups, the bytes that go out, why the session ends, and what it shows.
+// An input, the sizes of its groups, the bytes that go out, why the session ends, and what it
+// shows.
 type Run = (
     &'static [u8],
     &'static [usize],
@@ -39,7 +40,13 @@ type Run = (
 
 static RUNS: [Run; 9] = [
     (b"", &[0], b"", Cause::End, "an empty input"),
-    (TWO_GROUPS, &[2, 1], ALL_REPLIES, Cause::End, "a group ends by a Flush, and one by the end"),
+    (
+        TWO_GROUPS,
+        &[2, 1],
+        ALL_REPLIES,
+        Cause::End,
+        "a group ends by a Flush, and one by the end",
+    ),
     (
         b"\x02\0\0\0\x02b\x01\0\0\0\x05",
         &[1, 0],
@@ -92,8 +99,8 @@ static RUNS: [Run; 9] = [
 ];
 
 // The most bytes of a read of the two groups, the reads that fail, the sink's room, its calls that
-// fail, the sizes of the groups, the bytes that go out, why the session ends, how many bytes it took
-// and how many replies are left.
+// fail, the sizes of the groups, the bytes that go out, why the session ends, how many bytes it
+// took and how many replies are left.
 type Broken = (
     u32,
     &'static [u32],
@@ -109,14 +116,54 @@ type Broken = (
 static BROKEN: [Broken; 9] = [
     (14, &[1], 99, &[], &[0], b"", Cause::SourceFault, 0, 0),
     (11, &[2], 99, &[], &[1], STORED_A, Cause::SourceFault, 11, 0),
-    (14, &[2], 99, &[], &[2], TWO_REPLIES, Cause::SourceFault, 14, 0),
+    (
+        14,
+        &[2],
+        99,
+        &[],
+        &[2],
+        TWO_REPLIES,
+        Cause::SourceFault,
+        14,
+        0,
+    ),
     (14, &[2], 99, &[1], &[2], b"", Cause::SinkFault, 14, 2),
     (99, &[], 99, &[1], &[2], b"", Cause::SinkFault, 25, 2),
     (99, &[], 99, &[2], &[2], STORED_A, Cause::SinkFault, 25, 1),
-    (99, &[], 99, &[3], &[2, 1], TWO_REPLIES, Cause::SinkFault, 25, 1),
+    (
+        99,
+        &[],
+        99,
+        &[3],
+        &[2, 1],
+        TWO_REPLIES,
+        Cause::SinkFault,
+        25,
+        1,
+    ),
     // The second call finds room for 7 of 13 bytes, the third for none.
-    (99, &[], 20, &[], &[2], ONE_AND_PART, Cause::SinkFault, 25, 1),
-    (99, &[], 26, &[], &[2, 1], TWO_REPLIES, Cause::SinkFault, 25, 1),
+    (
+        99,
+        &[],
+        20,
+        &[],
+        &[2],
+        ONE_AND_PART,
+        Cause::SinkFault,
+        25,
+        1,
+    ),
+    (
+        99,
+        &[],
+        26,
+        &[],
+        &[2, 1],
+        TWO_REPLIES,
+        Cause::SinkFault,
+        25,
+        1,
+    ),
 ];
 
 // The first byte of the key, 0 where it has none.
@@ -128,9 +175,15 @@ fn reply_to(request: &Request) -> Reply
     ensures { HasReplyFrame result }
 {
     match request {
-        Request::Put { key, .. } => Reply::Stored { stamp: first_of(key) },
-        Request::Get { key } => Reply::Missing { stamp: first_of(key) },
-        Request::Delete { key } => Reply::Absent { stamp: first_of(key) },
+        Request::Put { key, .. } => Reply::Stored {
+            stamp: first_of(key),
+        },
+        Request::Get { key } => Reply::Missing {
+            stamp: first_of(key),
+        },
+        Request::Delete { key } => Reply::Absent {
+            stamp: first_of(key),
+        },
         Request::Flush => Reply::Closed,
     }
 }
@@ -225,6 +278,14 @@ struct Wanted<'a> {
     left: usize,
 }
 
+fn same_sizes(a: &[usize], b: &[usize]) -> bool {
+    a == b
+}
+
+fn same_bytes(a: &[u8], b: &[u8]) -> bool {
+    a == b
+}
+
 fn ends_so(
     alloc: Global,
     source: MemSource,
@@ -232,11 +293,11 @@ fn ends_so(
     wanted: &Wanted<'_>,
 ) -> Result<bool, Fail> {
     let mut sizes = Vec::new(alloc);
-    let parts = run(alloc, source, sink, &mut sizes)?;
-    match parts.ending {
+    let SessionParts { sink, ending, .. } = run(alloc, source, sink, &mut sizes)?;
+    match ending {
         Some(ending) => Ok(
-            sizes.as_slice() == wanted.sizes
-                && parts.sink.taken() == wanted.given
+            same_sizes(sizes.as_slice(), wanted.sizes)
+                && same_bytes(sink.taken(), wanted.given)
                 && ending.cause == wanted.cause
                 && ending.taken == wanted.taken
                 && ending.undelivered.as_slice().len() == wanted.left,
@@ -283,7 +344,10 @@ fn sessions_end_by_their_faults(rt: HostRuntime) -> Result<(), Fail> {
         };
         let source = source_of(alloc, TWO_GROUPS, *piece, reads)?;
         let sink = MemSink::new(alloc, *room, Calls::of(alloc, writes)?)?;
-        assert!(rt; ends_so(alloc, source, sink, &wanted)?, "{reads:?} {room} {writes:?}");
+        assert!(rt;
+            ends_so(alloc, source, sink, &wanted)?,
+            "{reads:?} {room} {writes:?}"
+        );
     }
     let bad = source_of(alloc, b"\x02\0\0\0\x02b\0\0\0\0", 99, &[])?;
     let wanted = Wanted {
@@ -294,7 +358,10 @@ fn sessions_end_by_their_faults(rt: HostRuntime) -> Result<(), Fail> {
         left: 1,
     };
     let sink = MemSink::new(alloc, 99, Calls::of(alloc, &[2])?)?;
-    assert!(rt; ends_so(alloc, bad, sink, &wanted)?, "the reply Malformed doesn't go out");
+    assert!(rt;
+        ends_so(alloc, bad, sink, &wanted)?,
+        "the reply Malformed doesn't go out"
+    );
     Ok(())
 }
 

@@ -1,4 +1,4 @@
-use Rattle.std.proofs.Common.{◌≡◌, ◌≤◌, ℕ, List, eqb, length, drop, reverse, ap, sym, subst, ◌∙◌}
+use Rattle.std.proofs.Common.{ℕ, List, eqb, length, drop, reverse, ap, sym, subst, ◌∙◌}
 use Rattle.std.proofs.Common.{arith, length-append}
 use Rattle.std.proofs.lemmas.List.{length-reverse, length-drop}
 use Rattle.kv_base.specs.declared.reply.Reply.{Reply}

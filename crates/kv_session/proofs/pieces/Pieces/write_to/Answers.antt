@@ -1,4 +1,4 @@
-use Rattle.std.proofs.Common.{◌≡◌, ℕ, List, length, take, drop, subst, subst₂, sym, ap, ◌∙◌, arith}
+use Rattle.std.proofs.Common.{◌≡◌, ℕ, List, length, take, subst, subst₂, sym, ap, ◌∙◌, arith}
 use Rattle.kv_base.specs.declared.reply.Reply.{Reply}
 use Rattle.kv_base.specs.Pieces.{AreEnds, IsUpTo}
 use Rattle.kv_base.specs.Stream.{Takes}

@@ -23,7 +23,8 @@ returns-in-None-clause-delivered g c source sink groups asked replies each are r
     Delivers-sent streams source sink groups asked replies _ c.args.self.now _ c.load.new.self.items
     left p.sent.0 c.send-whole.result c.self.view_is each read
     (record { source = refl; waiting = refl; taken = refl; ended = refl; closing = refl })
-    (c.load.ensures.items replies are) c.load.ensures.framed p.sent.1 p.sent.2 p.all p.some p.counted
+    (c.load.ensures.items replies are) c.load.ensures.framed p.sent.1 p.sent.2 p.all p.some
+    p.counted
     (subst (λ (cause : Option Cause). EndsAs cause left c.self.inside.reader.taken
     c.self.inside.ending) (sym c.in-None.is ∙ c.end_for.ensures) ending)
 
@@ -46,7 +47,8 @@ returns-in-Some-clause-delivered g c source sink groups asked replies each are r
     Delivers-sent streams source sink groups asked replies _ c.args.self.now _ c.load.new.self.items
     left p.sent.0 c.send-whole.result c.self.view_is each read
     (record { source = refl; waiting = refl; taken = refl; ended = refl; closing = refl })
-    (c.load.ensures.items replies are) c.load.ensures.framed p.sent.1 p.sent.2 p.all p.some p.counted
+    (c.load.ensures.items replies are) c.load.ensures.framed p.sent.1 p.sent.2 p.all p.some
+    p.counted
     (subst (λ (cause : Option Cause). EndsAs cause left c.self.inside.reader.taken (Some ending))
     (sym c.in-Some.is ∙ c.end_for.ensures)
     (ending, refl, refl, c.taken.ensures.value, c.take_left.ensures.items))

@@ -1,4 +1,4 @@
-use Rattle.std.proofs.Common.{[], None, ap, subst, sym, ◌∙◌, refl}
+use Rattle.std.proofs.Common.{[], ap, subst, sym, ◌∙◌, refl}
 use Rattle.kv_session.specs.Passage.{Streams, HasRead}
 use Rattle.kv_session.specs.Session.{SessionState}
 use Rattle.kv_session.proofs.PassageLemmas.{HasRead-group}
@@ -20,7 +20,8 @@ returns-in-None-clause-gathered g c =
       p.group.1,
       λ source sink groups read.
           HasRead-group streams source sink groups p.group.0 _ _ _
-          (subst (λ (s : State). HasRead streams source sink groups [] s) (sym c.self.view_is) read) reads
+          (subst (λ (s : State). HasRead streams source sink groups [] s) (sym c.self.view_is) read)
+          reads
           reads p.group.2 tt p.spent p.counted refl refl,
     )
 
@@ -40,6 +41,7 @@ returns-in-Some-clause-gathered g c =
       p.group.1,
       λ source sink groups read.
           HasRead-group streams source sink groups p.group.0 _ _ _
-          (subst (λ (s : State). HasRead streams source sink groups [] s) (sym c.self.view_is) read) reads
+          (subst (λ (s : State). HasRead streams source sink groups [] s) (sym c.self.view_is) read)
+          reads
           refl p.group.2 p.over p.spent p.counted refl refl,
     )

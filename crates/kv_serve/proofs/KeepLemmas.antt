@@ -5,6 +5,7 @@ use Rattle.std.proofs.Common.{ap, subst, ◌∙◌, arith, IsTrue, IsSome, true�
 use Rattle.std.specs.List.{AllByRecursion, flat_map}
 use Rattle.kv_base.specs.declared.cause.Cause.{Cause}
 use Rattle.kv_base.specs.declared.reply.Reply.{Reply}
+use Rattle.kv_base.specs.declared.reply.Reply.TheVariants.{NoMemory, Closed, StampsSpent}
 use Rattle.kv_base.specs.declared.request.Request.{Request}
 use Rattle.kv_base.specs.declared.request.Request.TheVariants.{Put, Get, Delete, Flush}
 use Rattle.kv_disk.specs.declared.disk.Disk as disks
@@ -12,23 +13,28 @@ use Rattle.kv_index.specs.declared.index.Index as indexes
 use Rattle.kv_model.proofs.GroupLemmas.{with_group-flat}
 use Rattle.kv_model.proofs.PairwiseLemmas.{All-rest, All-map}
 use Rattle.kv_model.specs.Agreement.{WithRefusals}
-use Rattle.kv_model.specs.Batch.{IsTask}
+use Rattle.kv_model.specs.Batch.{Start, IsTask, answers}
 use Rattle.kv_model.specs.BatchLaws.{pairs_of}
 use Rattle.kv_model.specs.Groups.{Groups, groups_of, with_group, all_groups, has_reply}
 use Rattle.kv_model.specs.History.{Write}
 use Rattle.kv_model.specs.Layout.{all_classes}
-use Rattle.kv_model.specs.Pairs.{Pair, key_of, pairs_in, requests_of}
+use Rattle.kv_model.specs.Pairs.{Pair, key_of, pairs_in, requests_of, acknowledged_by}
+use Rattle.kv_model.specs.Pairs.{unsure_writes}
 use Rattle.kv_session.specs.Passage.{Streams, HasRead, IsLastGroup, with_pairs}
 use Rattle.kv_session.specs.Session.{SessionState}
-use Rattle.kv_worker.specs.Steps.{IsDone, IsRefused, HasFailed, HasOutcome as HasStepOutcome}
-use Rattle.kv_worker.specs.Worker.{WorkerView}
+use Rattle.kv_worker.specs.Steps.{HasRefusal, HasOutcome as HasStepOutcome}
+use Rattle.kv_worker.specs.Worker.{WorkerView, start_of}
 use Rattle.kv_serve.specs.Laws.{RunLaws}
 use Rattle.kv_serve.specs.Outcome.{IsAhead, IsAlone, IsIdle, IsClosed, IsSpent, IsStepped, HasBatch}
 use Rattle.kv_serve.specs.Outcome.{HasOutcome, AnswersGroup}
 use Rattle.kv_serve.specs.Run.{HasRun}
 use Rattle.kv_serve.specs.declared.counter.Counter.{Counter}
+use Rattle.kv_serve.proofs.CauseLemmas.{AreFull, history_of, group-full, const-causes}
+use Rattle.kv_serve.proofs.CauseLemmas.{done-causes, failed-full}
+use Rattle.kv_serve.proofs.FullLemmas.{HasCause, full_of}
 use Rattle.kv_serve.proofs.OwnLemmas.{batch-few, batch-refusals}
-use Rattle.kv_serve.proofs.StepLemmas.{AreFull, idle-run, closed-run, spent-run, done-run}
+use Rattle.kv_serve.proofs.StampLemmas.{written-told, acknowledged-told}
+use Rattle.kv_serve.proofs.StepLemmas.{idle-run, closed-run, spent-run, done-run}
 use Rattle.kv_serve.proofs.StepLemmas.{refused-run, failed-run, steps-ahead}
 
 filtered : (test : Request → Bool) (requests : List Request)
@@ -143,6 +149,83 @@ outcome-ahead d i old new from to requests given (inr (inr (inl at))) ahead =
 outcome-ahead d i old new from to requests given (inr (inr (inr at))) ahead =
     steps-ahead d i old new from to requests given at.steps at.limit at.counter
 
+-- one refusal of the whole batch, which isn't Full
+const-full : {D I : Type 0} (d : disks.Ghosts D) (i : indexes.Ghosts I) (first old : WorkerView D I)
+    (from : Counter) (before : List Write) (floor : ℕ) (groups : List (List Pair))
+    (group : List Pair) (requests : List Request) (given : List Reply) (reply : Reply)
+    → HasRun d i first old from before floor groups → HasBatch (pairs_of requests given) group
+    → given ≡ map (λ _. reply) requests → full_of reply ≡ None → IsTrue d.tells
+    → AreFull first.store.limits.slots before (pairs_in groups ++ group)
+const-full d i first old from before floor groups group requests given reply run has is none told =
+    let history : List Write = history_of before (pairs_in groups ++ group) in
+    group-full first.store.limits.slots before (pairs_in groups) group requests given
+    (run.answers.full told) has
+    (subst (AllByRecursion (HasCause first.store.limits.slots history)) (sym is)
+    (const-causes first.store.limits.slots history reply requests none))
+
+-- each Full has its cause, whatever becomes of the batch
+run-full : {D I : Type 0} (laws : RunLaws) (d : disks.Ghosts D) (i : indexes.Ghosts I)
+    (first old new : WorkerView D I) (from to : Counter) (before : List Write) (floor : ℕ)
+    (groups : List (List Pair)) (group : List Pair) (requests : List Request) (given : List Reply)
+    → HasRun d i first old from before floor groups → HasBatch (pairs_of requests given) group
+    → WithRefusals d.tells all_classes (pairs_of requests given) group
+    → HasOutcome d i old new from to requests given → IsTrue d.tells
+    → AreFull first.store.limits.slots before (pairs_in groups ++ group)
+run-full laws d i first old new from to before floor groups group requests given run has among
+    (inl idle) told =
+    const-full d i first old from before floor groups group requests given NoMemory run has
+    (idle.replies_are ∙ ap (map (λ _. NoMemory)) (sym idle.none)) refl told
+run-full laws d i first old new from to before floor groups group requests given run has among
+    (inr (inl at)) told =
+    const-full d i first old from before floor groups group requests given Closed run has
+    at.replies_are refl told
+run-full laws d i first old new from to before floor groups group requests given run has among
+    (inr (inr (inl at))) told =
+    const-full d i first old from before floor groups group requests given (StampsSpent from.next)
+    run has at.replies_are refl told
+run-full laws d i first old new from to before floor groups group requests given run has among
+    (inr (inr (inr at))) told = by at.steps.outcome
+  where
+    start : Start
+    start = start_of d i old.store
+
+    pairs : List Pair
+    pairs = pairs_in groups
+
+    history : List Write
+    history = history_of before (pairs ++ group)
+
+    limit : old.store.limits.slots ≡ first.store.limits.slots
+    limit = ap (λ l. l.slots) run.limits
+
+    from_causes : AllByRecursion (HasCause old.store.limits.slots history) given
+        → AreFull first.store.limits.slots before (pairs ++ group)
+    from_causes causes = group-full first.store.limits.slots before pairs group requests given
+        (run.answers.full told) has
+        (subst (λ n. AllByRecursion (HasCause n history) given) limit causes)
+
+    refused-const : (reply : Reply) → HasRefusal reply (d.faults old.store.disk.disk)
+        (d.faults new.store.disk.disk) → full_of reply ≡ None
+    refused-const reply (inl why) = ap full_of why.0
+    refused-const reply (inr why) = ap full_of why.0
+
+    by : HasStepOutcome d i old.store new.store requests from.next given
+        → AreFull first.store.limits.slots before (pairs ++ group)
+    by (inl done) = from_causes (done-causes d i old.store before pairs group from.next requests
+        given told (run.follows at.open_) done.replies_are
+        (laws.refusals.acknowledged d.tells all_classes (pairs_of requests given) group among
+        ∙ written-told acknowledged_by d.tells (acknowledged-told d.tells) requests given
+        (answers start [] from.next requests) done.replies_are))
+    by (inr (inl refused)) = const-full d i first old from before floor groups group requests given
+        refused.reply run has refused.replies_are (refused-const refused.reply refused.cause) told
+    by (inr (inr failed)) = from_causes (subst (AllByRecursion (HasCause old.store.limits.slots
+        history)) (sym failed.replies_are)
+        (failed-full d i old.store before pairs group from.next requests told
+        (run.follows at.open_)
+        (laws.refusals.unsure d.tells all_classes (pairs_of requests given) group among
+        ∙ ap (λ rs. unsure_writes (pairs_of requests rs)) failed.replies_are
+        ∙ laws.failed.unsure start from.next requests)))
+
 -- the run with a group that isn't empty
 run-push : {D I : Type 0} (laws : RunLaws) (d : disks.Ghosts D) (i : indexes.Ghosts I)
     (first old new : WorkerView D I) (from to : Counter) (before : List Write) (floor : ℕ)
@@ -211,7 +294,11 @@ run-goes_on {D} {I} laws d i first old new from to before floor groups asked rep
         answers.given run answers.good answers.batch
         (batch-refusals d.tells group (pairs_of answers.requests answers.given)
         (pairs-keyed asked replies keyed) answers.batch) few
-        (omega (arith, few, pairs-many asked replies each, most)) answers.outcome ?)
+        (omega (arith, few, pairs-many asked replies each, most)) answers.outcome
+        (run-full laws d i first old new from to before floor groups group answers.requests
+        answers.given run answers.batch
+        (batch-refusals d.tells group (pairs_of answers.requests answers.given)
+        (pairs-keyed asked replies keyed) answers.batch) answers.outcome))
 
     by : ((new ≡ old) × (to ≡ from)) ⊎ (1 ≤ length answers.requests)
         → HasRun d i first new to before floor (with_pairs groups group)

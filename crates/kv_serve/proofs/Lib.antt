@@ -14,3 +14,6 @@ pub mod StepLemmas
 pub mod KeepLemmas
 pub mod SessionLemmas
 pub mod BeginLemmas
+pub mod KeyLemmas
+pub mod FullLemmas
+pub mod CauseLemmas

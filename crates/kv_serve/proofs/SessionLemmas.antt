@@ -50,9 +50,10 @@ pub more-session : {So Si : Type 0} (streams : Streams So Si) (source : So) (sin
     → old.closing ≡ None → KeepsReading old new
     → Delivers streams source sink groups old.closing new whole
     → IsSession streams source sink groups new whole
-more-session streams source sink groups old new true reads kept delivers =
-    (subst (λ closing. Delivers streams source sink groups closing new true) reads delivers,
-    kept.closing ∙ reads)
+more-session streams source sink groups old new true reads kept delivers = (
+  subst (λ closing. Delivers streams source sink groups closing new true) reads delivers,
+  kept.closing ∙ reads,
+)
 more-session streams source sink groups old new false reads kept delivers = (SinkFault, delivers)
 
 -- behind the last group

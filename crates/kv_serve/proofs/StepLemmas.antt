@@ -33,6 +33,7 @@ use Rattle.kv_serve.specs.Outcome.{IsAhead, IsAlone, IsIdle, IsClosed, IsSpent, 
 use Rattle.kv_serve.specs.Run.{HasStamps, HasRun}
 use Rattle.kv_serve.specs.declared.counter.Counter.{Counter}
 use Rattle.kv_serve.proofs.AddsLemmas.{Adds, refused-adds, done-adds, failed-adds, const-fault}
+use Rattle.kv_serve.proofs.CauseLemmas.{AreFull}
 use Rattle.kv_serve.proofs.OwnLemmas.{batch-few, only-refusals, any_reply, no_memory-may}
 use Rattle.kv_serve.proofs.RecoverLemmas.{writes-more, recovers-same, recovers-more}
 use Rattle.kv_serve.proofs.ReplyLemmas.{any_unsure-is, sure-none, const-refusals, disk_fault-may}
@@ -42,11 +43,6 @@ use Rattle.kv_serve.proofs.RunLemmas.{spent-more}
 use Rattle.kv_serve.proofs.StampLemmas.{HasStamp, has-weaker, stamps-all, writes-all, unsure-all}
 use Rattle.kv_serve.proofs.StampLemmas.{within-block, IsWithin, stamped-told, written-told}
 use Rattle.kv_serve.proofs.StampLemmas.{acknowledged-told, unsure-told}
-
--- the refusals of Full have their cause in these pairs
-abbrev pub AreFull : ℕ → List Write → List Pair → Type 0
-AreFull limit before pairs = AllByRecursion (IsFullAt limit (before ++ writes pairs
-    ++ unsure_writes pairs)) pairs
 
 -- the run with one more group, by what this adds
 run-more : {D I : Type 0} (d : disks.Ghosts D) (i : indexes.Ghosts I)

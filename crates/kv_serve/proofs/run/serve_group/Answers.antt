@@ -27,8 +27,11 @@ returns-in-More-clause-served g c source sink groups read =
       λ first before floor run. run-goes_on c.run_laws.ensures g.D.Disk g.I.Index first
           c.args.worker.now c.answer.new.worker c.args.counter.now c.answer.new.counter before floor
           groups asked done.0 run done.1
-          (omega (arith, taken-many asked c.gather-gathered.new.tasks.items gathered.1,
-          c.gather-gathered.ensures.most))
+          (omega (
+            arith,
+            taken-many asked c.gather-gathered.new.tasks.items gathered.1,
+            c.gather-gathered.ensures.most,
+          ))
           (asked-keyed c.run_laws.ensures streams source sink groups asked
           c.gather-gathered.new.self now) done.3,
     )
@@ -53,8 +56,11 @@ returns-in-Ending-clause-served g c source sink groups read =
       λ first before floor run. run-goes_on c.run_laws.ensures g.D.Disk g.I.Index first
           c.args.worker.now c.answer.new.worker c.args.counter.now c.answer.new.counter before floor
           groups asked done.0 run done.1
-          (omega (arith, taken-many asked c.gather-gathered.new.tasks.items gathered.1,
-          c.gather-gathered.ensures.most))
+          (omega (
+            arith,
+            taken-many asked c.gather-gathered.new.tasks.items gathered.1,
+            c.gather-gathered.ensures.most,
+          ))
           (asked-keyed c.run_laws.ensures streams source sink groups asked
           c.gather-gathered.new.self now) done.3,
     )

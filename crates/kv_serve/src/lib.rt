@@ -9,6 +9,8 @@ mod room;
 mod serve;
 mod serve_disk;
 mod status;
+#[cfg(test)]
+mod tests;
 mod top;
 mod words;
 

@@ -1,3 +1,4 @@
+pub mod ListLemmas
 pub mod GroupLemmas
 pub mod OutcomeLemmas
 pub mod OwnLemmas

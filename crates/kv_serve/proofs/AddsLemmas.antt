@@ -1,22 +1,22 @@
 -- What one group adds to the answers of a run.
-use Rattle.std.proofs.Common.{◌≡◌, ◌≢◌, ℕ, suc, ◌+◌, ◌-◌, ◌^◌, ◌<◌, ◌≤◌, List, [], ◌∷◌, ◌++◌, map}
+use Rattle.std.proofs.Common.{◌≡◌, ◌≢◌, ℕ, ◌+◌, ◌-◌, ◌^◌, ◌<◌, ◌≤◌, List, [], ◌∷◌, ◌++◌, map}
 use Rattle.std.proofs.Common.{length, Option, Some, None, Bool, true, false, cond, ◌||◌, refl, sym, ap}
 use Rattle.std.proofs.Common.{subst, ◌∙◌, arith, append-nil, MatchOption, length-append, true≢false, inl, inr}
 use Rattle.std.specs.List.{AllByRecursion}
 use Rattle.kv_base.specs.Calls.{next_count}
 use Rattle.kv_base.specs.declared.reply.Reply.{Reply}
-use Rattle.kv_base.specs.declared.reply.Reply.TheVariants.{NoMemory, Closed, StampsSpent}
+use Rattle.kv_base.specs.declared.reply.Reply.TheVariants.{StampsSpent}
 use Rattle.kv_base.specs.declared.request.Request.{Request}
 use Rattle.kv_model.proofs.FailedLemmas.{AreStamped-failed}
-use Rattle.kv_model.proofs.PairwiseLemmas.{All-append, All-map, All-each}
-use Rattle.kv_model.specs.Agreement.{AgreesWithMap, IsMapAnswer, IsRefusal, WithRefusals, told_of}
+use Rattle.kv_model.proofs.PairwiseLemmas.{All-append, All-map}
+use Rattle.kv_model.specs.Agreement.{AgreesWithMap, WithRefusals, told_of}
 use Rattle.kv_model.specs.Batch.{Start, IsTask, answers, accepted_writes, net, failed_replies}
 use Rattle.kv_model.specs.BatchLaws.{pairs_of, AreStamped}
 use Rattle.kv_model.specs.History.{Write}
 use Rattle.kv_model.specs.Items.{FollowsHistory}
 use Rattle.kv_model.specs.Layout.{all_classes}
 use Rattle.kv_model.specs.Order.{Rises, RisesForKey}
-use Rattle.kv_model.specs.Pairs.{Pair, key_of, stamp_of, stamps, writes, unsure_writes}
+use Rattle.kv_model.specs.Pairs.{Pair, stamp_of, stamps, writes, unsure_writes}
 use Rattle.kv_model.specs.Pairwise.{Pairwise}
 use Rattle.kv_serve.specs.Answers.{any_unsure, any_fault, is_unsure, is_fault, IsClosedAt}
 use Rattle.kv_serve.specs.Answers.{IsSpentAt}
@@ -25,11 +25,11 @@ use Rattle.kv_serve.specs.Outcome.{IsOwn, HasBatch}
 use Rattle.kv_serve.specs.Run.{IsBelow, HasStamps}
 use Rattle.kv_serve.specs.declared.counter.Counter.{Counter}
 use Rattle.kv_serve.proofs.OwnLemmas.{own-has, own-closed_at, batch-all, batch-pairwise}
-use Rattle.kv_serve.proofs.OwnLemmas.{batch-refusals, only-refusals, batch-few, any_reply, batch-any}
+use Rattle.kv_serve.proofs.OwnLemmas.{any_reply, batch-any}
 use Rattle.kv_serve.proofs.ReplyLemmas.{IsServed, served-open, served-stamped, calm-served}
 use Rattle.kv_serve.proofs.ReplyLemmas.{calm-replies, calm-no_fault, calm-sure, served-replies}
 use Rattle.kv_serve.proofs.ReplyLemmas.{calm-answers, pairs-all, any-none, any_unsure-is}
-use Rattle.kv_serve.proofs.ReplyLemmas.{any_fault-is, unsure-fault, failed-unsure, const-refusals}
+use Rattle.kv_serve.proofs.ReplyLemmas.{any_fault-is, unsure-fault, failed-unsure}
 use Rattle.kv_serve.proofs.ReplyLemmas.{IsCalm}
 use Rattle.kv_serve.proofs.RunLemmas.{or-false, stampless-rises, stampless-has}
 use Rattle.kv_serve.proofs.StampLemmas.{HasStamp, has-weaker, within-block, rises-block}

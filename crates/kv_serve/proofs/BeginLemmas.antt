@@ -1,5 +1,5 @@
 -- A run before its first group.
-use Rattle.std.proofs.Common.{◌≡◌, ℕ, ◌+◌, ◌-◌, ◌^◌, ◌<◌, ◌≤◌, List, [], ◌++◌, true, false, refl, sym}
+use Rattle.std.proofs.Common.{◌≡◌, ℕ, ◌+◌, ◌-◌, ◌^◌, ◌<◌, ◌≤◌, List, [], ◌++◌, false, refl, sym}
 use Rattle.std.proofs.Common.{ap, subst, subst₂, ◌∙◌, arith, append-nil, true≢false}
 use Rattle.kv_base.proofs.CrashLemmas.{started}
 use Rattle.kv_base.specs.Image.{Image}
@@ -12,7 +12,7 @@ use Rattle.kv_model.specs.Layout.{all_classes}
 use Rattle.kv_model.specs.Recovery.{RecoversPrefix}
 use Rattle.kv_worker.specs.Worker.{WorkerView, start_of}
 use Rattle.kv_serve.specs.Begins.{Begins}
-use Rattle.kv_serve.specs.Outcome.{IsAhead, IsAlone}
+use Rattle.kv_serve.specs.Outcome.{IsAhead}
 use Rattle.kv_serve.specs.Run.{HasRun}
 use Rattle.kv_serve.specs.declared.counter.Counter.{Counter}
 

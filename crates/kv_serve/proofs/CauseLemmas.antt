@@ -1,14 +1,12 @@
 -- Each Full of a run has its cause.
 use Rattle.std.proofs.Common.{◌≡◌, ◌≢◌, ◌⊎◌, inl, inr, ℕ, ◌+◌, ◌-◌, List, [], ◌∷◌, ◌++◌, map, Option}
-use Rattle.std.proofs.Common.{Some, None, Bool, refl, sym, ap, subst, ◌∙◌, IsSome, IsTrue, true≢false, is_some}
+use Rattle.std.proofs.Common.{Some, None, Bool, refl, sym, ap, subst, ◌∙◌, IsTrue, true≢false, is_some}
 use Rattle.std.proofs.Common.{Contains, option_to_list}
-use Rattle.std.specs.FinMap as finite
 use Rattle.std.specs.List.{AllByRecursion}
 use Rattle.std.proofs.lemmas.List.Elements.{filter_map-append, Contains-append_left}
 use Rattle.std.proofs.lemmas.List.Elements.{Contains-append_right, Contains-append_cases}
 use Rattle.kv_base.specs.declared.reply.Reply.{Reply}
-use Rattle.kv_base.specs.declared.reply.Reply.TheVariants.{Full, Found, NoMemory, DiskFault, Closed}
-use Rattle.kv_base.specs.declared.reply.Reply.TheVariants.{StampsSpent}
+use Rattle.kv_base.specs.declared.reply.Reply.TheVariants.{Full, Found}
 use Rattle.kv_base.specs.declared.request.Request.{Request}
 use Rattle.kv_base.specs.declared.request.Request.TheVariants.{Put, Get, Delete, Flush}
 use Rattle.kv_disk.specs.declared.disk.Disk as disks
@@ -22,16 +20,17 @@ use Rattle.kv_model.specs.Batch.{failed_replies}
 use Rattle.kv_model.specs.BatchLaws.{pairs_of}
 use Rattle.kv_model.specs.History.{Write}
 use Rattle.kv_model.specs.Items.{FollowsHistory}
-use Rattle.kv_model.specs.Pairs.{Pair, acknowledged, unsure_by, writes, unsure_writes, pairs_in}
+use Rattle.kv_model.specs.Pairs.{Pair, acknowledged, unsure_by, writes, unsure_writes}
 use Rattle.kv_slab.specs.View.{View}
 use Rattle.kv_worker.specs.Worker.{start_of}
-use Rattle.kv_serve.specs.Answers.{HasNoSlot, IsFullAt}
+use Rattle.kv_serve.specs.Answers.{IsFullAt}
 use Rattle.kv_serve.specs.Outcome.{HasBatch}
 use Rattle.kv_serve.proofs.FullLemmas.{IsIn, full_of, HasCause, Stocked, full-answers}
 use Rattle.kv_serve.proofs.KeyLemmas.{HasWrite, item-keys, class-write}
 use Rattle.kv_serve.proofs.OwnLemmas.{own-has, batch-all}
 use Rattle.kv_serve.proofs.ReplyLemmas.{pairs-all}
-use Rattle.kv_serve.proofs.StampLemmas.{same-told, heads, tails, none-here}
+use Rattle.kv_serve.proofs.ListLemmas.{none-some, heads, tails, none-here}
+use Rattle.kv_serve.proofs.StampLemmas.{same-told}
 
 -- each write of the first history is one of the second
 abbrev pub IsPart : List Write → List Write → Type 0
@@ -187,9 +186,6 @@ same-cause limit history (reply ∷ replies) (other ∷ others) e all = (
   same-cause limit history replies others (tails (full_of reply) (full_of other)
       (map full_of replies) (map full_of others) e) all.1,
 )
-
-none-some : (n : ℕ) → None ≡ Some n → ⊥
-none-some n e = cc
 
 failed-cause : (limit : ℕ) (history : List Write) (request : Request) (stamp : ℕ) (reply : Reply)
     → HasCause limit history reply → HasCause limit history (failed_reply request stamp reply)

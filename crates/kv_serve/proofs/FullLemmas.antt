@@ -1,42 +1,32 @@
 -- A put is refused as Full only where its class has no slot left.
-use Rattle.std.proofs.Common.{◌≡◌, ◌≢◌, ◌⊎◌, inl, inr, ℕ, suc, ◌+◌, ◌-◌, ◌*◌, ◌≤◌, List, [], ◌∷◌, ◌++◌}
+use Rattle.std.proofs.Common.{◌≡◌, ◌≢◌, ◌⊎◌, inl, inr, ℕ, ◌+◌, ◌*◌, ◌≤◌, List, [], ◌∷◌, ◌++◌}
 use Rattle.std.proofs.Common.{map, filter, length, Option, Some, None, Bool, true, false, cond, not}
-use Rattle.std.proofs.Common.{◌&&◌, ◌||◌, refl, sym, ap, subst, ◌∙◌, arith, IsSome, is_some, true≢false}
-use Rattle.std.proofs.Common.{Contains, nat_le, option_and_then, option_map, option_to_list}
-use Rattle.std.proofs.Common.{length-append, append_assoc, append-nil, count_by, IsTrue, ◌<◌, eq-eqb}
-use Rattle.std.specs.FinMap as finite
-use Rattle.std.specs.List.{AllByRecursion, cons_option}
+use Rattle.std.proofs.Common.{◌&&◌, ◌||◌, refl, sym, ap, subst, ◌∙◌, arith, IsSome, true≢false}
+use Rattle.std.proofs.Common.{Contains, nat_le, option_and_then, option_to_list}
+use Rattle.std.proofs.Common.{length-append, append_assoc, append-nil, ◌<◌, eq-eqb}
+use Rattle.std.specs.List.{AllByRecursion}
 use Rattle.std.specs.Str.{bytes_eq}
-use Rattle.std.proofs.lemmas.Bool.{and_parts, or_cases, eqb-true, leb-true, leb-false, cases_lt}
+use Rattle.std.proofs.lemmas.Bool.{and_parts, eqb-true, leb-true, cases_lt}
 use Rattle.std.proofs.lemmas.List.{length-map}
 use Rattle.std.proofs.lemmas.List.Sums.{length-filter}
 use Rattle.kv_base.specs.declared.reply.Reply.{Reply}
-use Rattle.kv_base.specs.declared.reply.Reply.TheVariants.{Full, Found}
+use Rattle.kv_base.specs.declared.reply.Reply.TheVariants.{Full}
 use Rattle.kv_base.specs.declared.request.Request.{Request}
 use Rattle.kv_base.specs.declared.request.Request.TheVariants.{Put, Get, Delete, Flush}
-use Rattle.kv_disk.specs.declared.disk.Disk as disks
-use Rattle.kv_index.specs.declared.index.Index as indexes
-use Rattle.kv_model.proofs.AnswersLemmas.{IsAbsent, kinds, acknowledged_here, cons-is}
 use Rattle.kv_model.proofs.NetLemmas.{All-last_writes, All-filter, DifferentKeys-last_writes}
 use Rattle.kv_model.proofs.NetLemmas.{DifferentKeys-filter}
-use Rattle.kv_model.proofs.PairwiseLemmas.{All-append, All-map, All-front, All-rest, Pairwise-append}
-use Rattle.kv_model.specs.Agreement.{told_of}
+use Rattle.kv_model.proofs.PairwiseLemmas.{All-append, All-map, All-front, Pairwise-append}
 use Rattle.kv_model.specs.Batch.{Start, answers, reply_of, put_reply, get_reply, delete_reply, behind}
 use Rattle.kv_model.specs.Batch.{accepted, accepted_writes, full_class, is_full, needs_slot}
 use Rattle.kv_model.specs.Batch.{takes_slot, taken_by_others, last_writes, class_written, value_after}
-use Rattle.kv_model.specs.Batch.{failed_reply, failed_replies}
-use Rattle.kv_model.specs.BatchLaws.{pairs_of}
 use Rattle.kv_model.specs.History.{Write}
-use Rattle.kv_model.specs.Items.{FollowsHistory}
 use Rattle.kv_model.specs.Layout.{all_classes, class_of, is_small}
-use Rattle.kv_model.specs.Pairs.{Pair, writes}
+use Rattle.kv_model.specs.Pairs.{writes}
 use Rattle.kv_model.specs.Pairwise.{Pairwise}
 use Rattle.kv_model.specs.Slots.{is_class}
-use Rattle.kv_slab.specs.View.{View}
-use Rattle.kv_worker.specs.Worker.{start_of}
-use Rattle.kv_serve.specs.Answers.{HasKeysOf, HasNoSlot, IsFullAt}
-use Rattle.kv_serve.proofs.KeyLemmas.{HasWrite, ItemKeys, item-keys, class-write}
-use Rattle.kv_serve.proofs.StampLemmas.{same-told, heads, tails, none-here}
+use Rattle.kv_serve.specs.Answers.{HasKeysOf, HasNoSlot}
+use Rattle.kv_serve.proofs.ListLemmas.{same-some, none-some, filtered}
+use Rattle.kv_serve.proofs.KeyLemmas.{HasWrite}
 
 -- the write has a value, and is in the history
 abbrev pub IsIn : List Write → Write → Type 0
@@ -52,27 +42,9 @@ abbrev pub HasCause : ℕ → List Write → Reply → Type 0
 HasCause limit history reply = (class : ℕ) → full_of reply ≡ Some class
     → HasNoSlot limit history class
 
-same-some : {X : Type 0} (x y : X) → Some x ≡ Some y → x ≡ y
-same-some x y e = cc
-
-none-some : {X : Type 0} (x : X) → None ≡ Some x → ⊥
-none-some x e = cc
-
 is-class : (o : Option ℕ) (class : ℕ) → is_class o class ≡ true → o ≡ Some class
 is-class None class e = absurd (true≢false (sym e))
 is-class (Some found) class e = ap (λ n. Some n) (eqb-true found class e)
-
-filtered : (test : Write → Bool) (writes : List Write)
-    → AllByRecursion (λ write. test write ≡ true) (filter test writes)
-filtered test [] = tt
-filtered test (write ∷ writes) = by (test write) refl (filtered test writes)
-  where
-    by : (b : Bool) → test write ≡ b
-        → AllByRecursion (λ w. test w ≡ true) (filter test writes)
-        → AllByRecursion (λ w. test w ≡ true) (cond b (write ∷ filter test writes)
-        (filter test writes))
-    by true e rest = (e, rest)
-    by false e rest = rest
 
 -- the keys of the other writes that take a slot
 abbrev takes : Start → List ℕ → ℕ → Write → Bool

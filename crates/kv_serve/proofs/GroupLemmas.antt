@@ -1,7 +1,7 @@
 -- Lemmas on the way of a group's tasks into a batch and back.
-use Rattle.std.proofs.Common.{◌≡◌, ℕ, suc, ◌+◌, ◌-◌, ◌<◌, ◌≤◌, List, [], ◌∷◌, ◌++◌, map, filter}
+use Rattle.std.proofs.Common.{◌≡◌, ℕ, suc, ◌+◌, ◌<◌, ◌≤◌, List, [], ◌∷◌, ◌++◌, map, filter}
 use Rattle.std.proofs.Common.{length, take, drop, get_or, Option, Some, None, Bool, true, false}
-use Rattle.std.proofs.Common.{refl, sym, ap, subst, ◌∙◌, arith, not, append_assoc, set, is_some}
+use Rattle.std.proofs.Common.{refl, sym, ap, ◌∙◌, arith, not, append_assoc, set, is_some}
 use Rattle.std.proofs.Common.{length-append, length-take, cond}
 use Rattle.std.proofs.lemmas.List.{take_more, take_more_set, drop-set-lt, drop-drop, get_or-drop}
 use Rattle.std.proofs.lemmas.List.{set-get_or, map-set, map-append, take-set, drop-set, length-map, take_at}

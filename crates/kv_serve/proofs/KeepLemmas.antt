@@ -25,29 +25,18 @@ use Rattle.kv_session.specs.Session.{SessionState}
 use Rattle.kv_worker.specs.Steps.{HasRefusal, HasOutcome as HasStepOutcome}
 use Rattle.kv_worker.specs.Worker.{WorkerView, start_of}
 use Rattle.kv_serve.specs.Laws.{RunLaws}
-use Rattle.kv_serve.specs.Outcome.{IsAhead, IsAlone, IsIdle, IsClosed, IsSpent, IsStepped, HasBatch}
+use Rattle.kv_serve.specs.Outcome.{IsAhead, IsAlone, HasBatch}
 use Rattle.kv_serve.specs.Outcome.{HasOutcome, AnswersGroup}
 use Rattle.kv_serve.specs.Run.{HasRun}
 use Rattle.kv_serve.specs.declared.counter.Counter.{Counter}
 use Rattle.kv_serve.proofs.CauseLemmas.{AreFull, history_of, group-full, const-causes}
 use Rattle.kv_serve.proofs.CauseLemmas.{done-causes, failed-full}
 use Rattle.kv_serve.proofs.FullLemmas.{HasCause, full_of}
+use Rattle.kv_serve.proofs.ListLemmas.{filtered}
 use Rattle.kv_serve.proofs.OwnLemmas.{batch-few, batch-refusals}
 use Rattle.kv_serve.proofs.StampLemmas.{written-told, acknowledged-told}
 use Rattle.kv_serve.proofs.StepLemmas.{idle-run, closed-run, spent-run, done-run}
 use Rattle.kv_serve.proofs.StepLemmas.{refused-run, failed-run, steps-ahead}
-
-filtered : (test : Request → Bool) (requests : List Request)
-    → AllByRecursion (λ request. test request ≡ true) (filter test requests)
-filtered test [] = tt
-filtered test (request ∷ requests) = by (test request) refl (filtered test requests)
-  where
-    by : (b : Bool) → test request ≡ b
-        → AllByRecursion (λ r. test r ≡ true) (filter test requests)
-        → AllByRecursion (λ r. test r ≡ true) (cond b (request ∷ filter test requests)
-        (filter test requests))
-    by true e rest = (e, rest)
-    by false e rest = rest
 
 replied-keyed : (request : Request) → has_reply request ≡ true → IsSome (key_of request)
 replied-keyed (Put key value) e = refl

@@ -1,9 +1,9 @@
 -- Lemmas on the keys that have an item of a class.
-use Rattle.std.proofs.Common.{◌≡◌, ◌≢◌, ℕ, suc, ◌+◌, ◌*◌, ◌≤◌, ◌<◌, List, [], ◌∷◌, ◌++◌, map, filter}
-use Rattle.std.proofs.Common.{length, Option, Some, None, Bool, true, false, cond, not, ◌&&◌, refl, sym}
-use Rattle.std.proofs.Common.{ap, subst, ◌∙◌, arith, IsSome, is_some, true≢false, Contains, nat_le}
+use Rattle.std.proofs.Common.{◌≡◌, ◌≢◌, ℕ, List, [], ◌∷◌, map, filter}
+use Rattle.std.proofs.Common.{length, Option, Some, None, Bool, true, false, cond, ◌&&◌, refl, sym}
+use Rattle.std.proofs.Common.{ap, subst, ◌∙◌, Contains, nat_le}
 use Rattle.std.proofs.Common.{Ordering, Less, Equal, Greater, option_and_then, option_map, ◌==◌}
-use Rattle.std.proofs.Common.{length-append, inl, inr, count_by, eqb, T}
+use Rattle.std.proofs.Common.{T}
 use Rattle.std.specs.FinMap as finite
 use Rattle.std.specs.FinMap.{is_sorted, find, entries_sorted, get-entries}
 use Rattle.std.specs.FinMap.Entries.{below_all}
@@ -12,7 +12,7 @@ use Rattle.std.specs.Ordering.{nat_cmp, is_eq, is_lt, eq_by_cmp, ordering_revers
 use Rattle.std.specs.Cmp.{tied_itself}
 use Rattle.std.specs.Cmp.Lexicographic.{slice_cmp}
 use Rattle.std.specs.Str.{bytes_eq}
-use Rattle.std.proofs.lemmas.Bool.{and_parts, eqb-true, cases_Bool, leb-true}
+use Rattle.std.proofs.lemmas.Bool.{and_parts, eqb-true}
 use Rattle.std.proofs.lemmas.Cmp.{nat_list_cmp_total}
 use Rattle.std.proofs.lemmas.List.{length-map}
 use Rattle.std.proofs.lemmas.List.Sums.{length-filter}
@@ -20,12 +20,13 @@ use Rattle.std.proofs.lemmas.Slice.Eq.{bytes_eq-Decides}
 use Rattle.kv_index.specs.Entries.{Entries}
 use Rattle.kv_index.specs.declared.entry.Entry.{Entry}
 use Rattle.kv_model.proofs.ContainsLemmas.{Contains-first, Contains-behind}
-use Rattle.kv_model.specs.History.{Write, latest, later, later_of, value_at}
+use Rattle.kv_model.specs.History.{Write, latest, later_of, value_at}
 use Rattle.kv_model.specs.Items.{class_with}
-use Rattle.kv_model.specs.Layout.{all_classes, class_of}
+use Rattle.kv_model.specs.Layout.{all_classes}
 use Rattle.kv_model.specs.Batch.{class_written}
 use Rattle.kv_model.specs.Pairwise.{Pairwise}
 use Rattle.kv_slab.specs.Memory.{items_in}
+use Rattle.kv_serve.proofs.ListLemmas.{same-some, none-some}
 
 abbrev order : List ℕ → List ℕ → Ordering
 order = slice_cmp nat_cmp
@@ -156,12 +157,6 @@ item-keys entries class = record {
 abbrev pub HasWrite : ℕ → List Write → List ℕ → Type 0
 HasWrite class history key = (write : Write) × Contains history write × (write.key ≡ key)
     × (class_written all_classes write ≡ Some class)
-
-same-some : {X : Type 0} (x y : X) → Some x ≡ Some y → x ≡ y
-same-some x y e = cc
-
-none-some : {X : Type 0} (x : X) → None ≡ Some x → ⊥
-none-some x e = cc
 
 -- the latest write is one of them, of the key
 latest-in : (history : List Write) (stamp : ℕ) (key : List ℕ) (write : Write)

@@ -2,6 +2,7 @@ pub mod FoundLemmas
 pub mod OpeningLemmas
 pub mod ServeLemmas
 pub mod StartLemmas
+pub mod ListLemmas
 pub mod GroupLemmas
 pub mod OutcomeLemmas
 pub mod OwnLemmas

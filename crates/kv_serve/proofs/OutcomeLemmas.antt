@@ -1,5 +1,5 @@
 -- Lemmas on what becomes of a group.
-use Rattle.std.proofs.Common.{◌≡◌, ◌⊎◌, inl, inr, ℕ, suc, ◌+◌, ◌<◌, ◌≤◌, ◌^◌, List, [], ◌∷◌, ◌++◌}
+use Rattle.std.proofs.Common.{◌≡◌, ◌⊎◌, inl, inr, ℕ, suc, ◌≤◌, ◌^◌, List, [], ◌∷◌, ◌++◌}
 use Rattle.std.proofs.Common.{map, filter, length, Option, Some, None, Bool, true, false, cond, not}
 use Rattle.std.proofs.Common.{refl, sym, ap, subst, subst₂, ◌∙◌, arith, is_some, MatchOption, IfSome}
 use Rattle.std.specs.List.{AllByRecursion}
@@ -9,13 +9,12 @@ use Rattle.kv_base.specs.declared.reply.Reply.{Reply}
 use Rattle.kv_base.specs.declared.reply.Reply.TheVariants.{BadKey, TooLarge, NoMemory, Closed}
 use Rattle.kv_base.specs.declared.reply.Reply.TheVariants.{StampsSpent}
 use Rattle.kv_base.specs.declared.request.Request.{Request}
-use Rattle.kv_base.specs.declared.request.Request.TheVariants.{Put, Get, Delete, Flush}
 use Rattle.kv_model.proofs.RecoveryLemmas.{owned}
 use Rattle.kv_model.specs.Agreement.{refusal_of}
 use Rattle.kv_model.specs.Batch.{IsTask}
 use Rattle.kv_model.specs.BatchLaws.{pairs_of}
 use Rattle.kv_model.specs.Frames.{HasReplyFrame}
-use Rattle.kv_model.specs.Layout.{all_classes, class_of, is_key_length}
+use Rattle.kv_model.specs.Layout.{all_classes}
 use Rattle.kv_model.specs.Pairs.{Pair, key_of}
 use Rattle.kv_ring.specs.Tasks.{replies_of}
 use Rattle.kv_ring.specs.declared.task.Task.{Task}
@@ -23,7 +22,7 @@ use Rattle.kv_session.specs.Tasks.{GoesOn, IsRefused, AreTaken}
 use Rattle.kv_worker.specs.Batches.{AreAnswered, IsOpenTask, requests_in}
 use Rattle.kv_serve.specs.Group.{waits, of_session, filled}
 use Rattle.kv_worker.specs.Worker.{WorkerView}
-use Rattle.kv_serve.specs.Outcome.{IsOwn, HasBatch, IsAlone}
+use Rattle.kv_serve.specs.Outcome.{HasBatch, IsAlone}
 use Rattle.kv_serve.proofs.GroupLemmas.{few-filtered, waits-same}
 use Rattle.kv_serve.proofs.OwnLemmas.{refused-has}
 

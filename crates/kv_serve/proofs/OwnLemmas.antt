@@ -1,5 +1,5 @@
 -- Lemmas on the pairs that a session answers itself, among those of a batch.
-use Rattle.std.proofs.Common.{◌≡◌, ◌≢◌, ◌⊎◌, inl, inr, ℕ, suc, ◌≤◌, List, [], ◌∷◌, length, Option}
+use Rattle.std.proofs.Common.{◌≡◌, ◌≢◌, ◌⊎◌, inl, inr, ◌≤◌, List, [], ◌∷◌, length, Option}
 use Rattle.std.proofs.Common.{Some, None, Bool, true, false, cond, ◌||◌, refl, sym, ap, subst, ◌∙◌}
 use Rattle.std.proofs.Common.{is_some, IsSome, MatchOption, arith, true≢false}
 use Rattle.std.specs.List.{AllByRecursion}

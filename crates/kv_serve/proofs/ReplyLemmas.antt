@@ -4,8 +4,8 @@ use Rattle.std.proofs.Common.{false, ◌||◌, refl, sym, ap, subst, ◌∙◌, 
 use Rattle.std.specs.List.{AllByRecursion, cons_option}
 use Rattle.std.proofs.lemmas.Bool.{or_parts, or_left, or_right, or_cases, cases_Bool}
 use Rattle.kv_base.specs.declared.reply.Reply.{Reply}
-use Rattle.kv_base.specs.declared.reply.Reply.TheVariants.{Stored, Found, Missing, Removed, Absent}
-use Rattle.kv_base.specs.declared.reply.Reply.TheVariants.{BadKey, TooLarge, Full, NoMemory}
+use Rattle.kv_base.specs.declared.reply.Reply.TheVariants.{Found}
+use Rattle.kv_base.specs.declared.reply.Reply.TheVariants.{Full}
 use Rattle.kv_base.specs.declared.reply.Reply.TheVariants.{DiskFault, Unsure, Closed, StampsSpent}
 use Rattle.kv_base.specs.declared.request.Request.{Request}
 use Rattle.kv_base.specs.declared.request.Request.TheVariants.{Put, Get, Delete, Flush}
@@ -19,7 +19,8 @@ use Rattle.kv_model.specs.Layout.{all_classes}
 use Rattle.kv_model.specs.Pairs.{Pair, key_of, stamp_of, unsure_by, unsure_writes}
 use Rattle.kv_serve.specs.Answers.{is_unsure, is_fault, any_unsure, any_fault}
 use Rattle.kv_serve.proofs.OwnLemmas.{any_reply}
-use Rattle.kv_serve.proofs.StampLemmas.{same-told, heads, tails, none-here}
+use Rattle.kv_serve.proofs.ListLemmas.{heads, tails, none-here}
+use Rattle.kv_serve.proofs.StampLemmas.{same-told}
 
 -- whether the reply comes from a store that is open and meets no fault
 abbrev pub is_calm : Reply → Bool

@@ -1,11 +1,10 @@
 -- Lemmas on the groups of a run with one more behind them.
-use Rattle.std.proofs.Common.{◌≡◌, ℕ, suc, ◌+◌, ◌<◌, ◌≤◌, List, [], ◌∷◌, ◌++◌, length, Option, Some}
+use Rattle.std.proofs.Common.{◌≡◌, ℕ, ◌<◌, ◌≤◌, List, [], ◌∷◌, ◌++◌}
 use Rattle.std.proofs.Common.{None, Bool, true, false, cond, ◌||◌, refl, sym, ap, subst, ◌∙◌, arith}
 use Rattle.std.proofs.Common.{append-nil, MatchOption}
-use Rattle.std.specs.List.{AllByRecursion, cons_option, flat_map}
+use Rattle.std.specs.List.{AllByRecursion}
 use Rattle.std.proofs.lemmas.List.Concat.{flat_map-append}
 use Rattle.kv_base.specs.Calls.{next_count}
-use Rattle.kv_base.specs.declared.reply.Reply.{Reply}
 use Rattle.kv_model.proofs.PairwiseLemmas.{All-append, All-map, All-front, All-rest}
 use Rattle.kv_model.proofs.PairwiseLemmas.{Pairwise-append}
 use Rattle.kv_model.specs.Order.{IsAfter, RisesForKey, RespectsOrder}
@@ -13,7 +12,6 @@ use Rattle.kv_model.specs.Pairs.{Pair, pairs_in, stamps, stamp_of}
 use Rattle.kv_model.specs.Pairwise.{Pairwise}
 use Rattle.kv_serve.specs.Answers.{is_unsure, any_unsure, any_fault, faults_behind, IsClosedAt}
 use Rattle.kv_serve.specs.Answers.{AreClosedBehind, IsSpentAt}
-use Rattle.kv_serve.proofs.OwnLemmas.{any_reply}
 use Rattle.kv_serve.proofs.StampLemmas.{HasStamp, stamps-all}
 
 pub pairs-push : (groups : List (List Pair)) (group : List Pair)

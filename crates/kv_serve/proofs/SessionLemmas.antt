@@ -1,6 +1,6 @@
 -- Lemmas on a session behind its groups.
-use Rattle.std.proofs.Common.{◌≡◌, ℕ, suc, ◌+◌, List, [], ◌∷◌, length, Option, None, Some, Bool, true}
-use Rattle.std.proofs.Common.{false, refl, sym, ap, subst, ◌∙◌, arith, true≢false}
+use Rattle.std.proofs.Common.{◌≡◌, suc, List, [], ◌∷◌, length, None, Some, Bool, true}
+use Rattle.std.proofs.Common.{false, refl, sym, ap, subst, ◌∙◌, true≢false}
 use Rattle.kv_base.proofs.StreamLemmas.{Passes-nil, Takes-nil}
 use Rattle.kv_base.specs.declared.cause.Cause.{Cause}
 use Rattle.kv_base.specs.declared.cause.Cause.TheVariants.{SinkFault}
@@ -8,7 +8,7 @@ use Rattle.kv_base.specs.declared.request.Request.{Request}
 use Rattle.kv_model.specs.Groups.{no_groups}
 use Rattle.kv_model.specs.Pairs.{Pair}
 use Rattle.kv_ring.specs.declared.task.Task.{Task}
-use Rattle.kv_session.specs.Passage.{Streams, HasRead, HasEnded, Delivers, IsLastGroup}
+use Rattle.kv_session.specs.Passage.{Streams, HasRead, Delivers, IsLastGroup}
 use Rattle.kv_session.specs.Passage.{source_faults_at}
 use Rattle.kv_session.specs.Session.{SessionState, IsNew, KeepsReading}
 use Rattle.kv_session.specs.Tasks.{AreTaken}

@@ -1,22 +1,20 @@
 -- Lemmas on the stamps of a batch's replies, and on what is told of them.
-use Rattle.std.proofs.Common.{◌≡◌, ℕ, suc, ◌+◌, ◌<◌, ◌≤◌, List, [], ◌∷◌, map, length, Option, Some}
-use Rattle.std.proofs.Common.{None, Bool, true, false, refl, sym, ap, subst, ◌∙◌, arith, MatchOption}
+use Rattle.std.proofs.Common.{◌≡◌, ℕ, ◌+◌, ◌<◌, ◌≤◌, List, [], ◌∷◌, map, length, Option, Some}
+use Rattle.std.proofs.Common.{None, Bool, refl, sym, ap, subst, ◌∙◌, arith, MatchOption}
 use Rattle.std.proofs.Common.{IfSome, filter_map}
 use Rattle.std.specs.List.{AllByRecursion, cons_option}
 use Rattle.kv_base.specs.declared.reply.Reply.{Reply}
-use Rattle.kv_base.specs.declared.reply.Reply.TheVariants.{Stored, Found, Missing, Removed, Absent}
-use Rattle.kv_base.specs.declared.reply.Reply.TheVariants.{BadKey, TooLarge, Full, NoMemory}
-use Rattle.kv_base.specs.declared.reply.Reply.TheVariants.{DiskFault, Unsure, Closed, StampsSpent}
+use Rattle.kv_base.specs.declared.reply.Reply.TheVariants.{Stored, Found, Removed}
+use Rattle.kv_base.specs.declared.reply.Reply.TheVariants.{Unsure}
 use Rattle.kv_base.specs.declared.request.Request.{Request}
 use Rattle.kv_base.specs.declared.request.Request.TheVariants.{Put, Get, Delete, Flush}
-use Rattle.kv_model.proofs.PairwiseLemmas.{All-map}
 use Rattle.kv_model.specs.Agreement.{told_of}
 use Rattle.kv_model.specs.BatchLaws.{pairs_of, AreStamped}
-use Rattle.kv_model.specs.History.{Write}
 use Rattle.kv_model.specs.Order.{Rises}
 use Rattle.kv_model.specs.Pairs.{Pair, written, acknowledged_by, unsure_by, stamp_of, stamps, writes}
 use Rattle.kv_model.specs.Pairs.{unsure_writes}
 use Rattle.kv_model.specs.Pairwise.{Pairwise}
+use Rattle.kv_serve.proofs.ListLemmas.{heads, tails, none-here}
 
 -- the stamp that the reply carries, if it does, has this
 abbrev pub HasStamp : (ℕ → Type 0) → Pair → Type 0
@@ -144,15 +142,6 @@ pub same-told : {X : Type 0} (f : Reply → X) (told : Bool)
     → map (told_of told) replies ≡ map (told_of told) others → map f replies ≡ map f others
 same-told f told same replies others e =
     sym (map-told f told same replies) ∙ ap (map f) e ∙ map-told f told same others
-
-pub heads : {X : Type 0} (x y : X) (xs ys : List X) → x ∷ xs ≡ y ∷ ys → x ≡ y
-heads x y xs ys e = cc
-
-pub tails : {X : Type 0} (x y : X) (xs ys : List X) → x ∷ xs ≡ y ∷ ys → xs ≡ ys
-tails x y xs ys e = cc
-
-pub none-here : {X : Type 0} (x : X) (xs : List X) → x ∷ xs ≡ [] → ⊥
-none-here x xs e = omega (arith, ap length e)
 
 stamp-told : (told : Bool) (reply : Reply) → stamp_of (told_of told reply) ≡ stamp_of reply
 stamp-told told (Found stamp value) = refl

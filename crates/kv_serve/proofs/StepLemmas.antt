@@ -1,5 +1,5 @@
 -- A run with one more group.
-use Rattle.std.proofs.Common.{◌≡◌, ◌≢◌, ◌⊎◌, inl, inr, ℕ, suc, ◌+◌, ◌-◌, ◌^◌, ◌<◌, ◌≤◌, List, [], ◌∷◌}
+use Rattle.std.proofs.Common.{◌≡◌, ◌≢◌, ◌⊎◌, inl, inr, ℕ, ◌+◌, ◌-◌, ◌^◌, ◌<◌, ◌≤◌, List, [], ◌∷◌}
 use Rattle.std.proofs.Common.{◌++◌, map, length, Bool, true, false, cond, ◌||◌, refl, sym, ap, subst}
 use Rattle.std.proofs.Common.{◌∙◌, arith, append-nil, length-append, IsTrue, true≢false, subst₂, IsSome}
 use Rattle.std.proofs.Common.{None}
@@ -8,7 +8,7 @@ use Rattle.kv_base.specs.Calls.{next_count}
 use Rattle.kv_base.specs.Crash.{MayLeave}
 use Rattle.kv_base.specs.Image.{Image}
 use Rattle.kv_base.specs.declared.reply.Reply.{Reply}
-use Rattle.kv_base.specs.declared.reply.Reply.TheVariants.{NoMemory, DiskFault, Closed, Full}
+use Rattle.kv_base.specs.declared.reply.Reply.TheVariants.{NoMemory, DiskFault, Closed}
 use Rattle.kv_base.specs.declared.reply.Reply.TheVariants.{StampsSpent}
 use Rattle.kv_base.specs.declared.request.Request.{Request}
 use Rattle.kv_disk.specs.declared.disk.Disk as disks
@@ -26,7 +26,7 @@ use Rattle.kv_model.specs.Pairs.{unsure_by, stamp_of}
 use Rattle.kv_model.specs.Recovery.{RecoversPrefix}
 use Rattle.kv_worker.specs.Steps.{IsDone, IsRefused, HasRefusal, HasFailed, Continues, Steps}
 use Rattle.kv_worker.specs.Worker.{WorkerView, start_of}
-use Rattle.kv_serve.specs.Answers.{HasAnswers, Recovers, IsClosedAt, IsSpentAt, IsFullAt, any_unsure}
+use Rattle.kv_serve.specs.Answers.{Recovers, IsClosedAt, IsSpentAt, any_unsure}
 use Rattle.kv_serve.specs.Answers.{any_fault, is_fault, is_unsure}
 use Rattle.kv_serve.specs.Laws.{RunLaws}
 use Rattle.kv_serve.specs.Outcome.{IsAhead, IsAlone, IsIdle, IsClosed, IsSpent, IsStepped, HasBatch}
@@ -34,7 +34,7 @@ use Rattle.kv_serve.specs.Run.{HasStamps, HasRun}
 use Rattle.kv_serve.specs.declared.counter.Counter.{Counter}
 use Rattle.kv_serve.proofs.AddsLemmas.{Adds, refused-adds, done-adds, failed-adds, const-fault}
 use Rattle.kv_serve.proofs.CauseLemmas.{AreFull}
-use Rattle.kv_serve.proofs.OwnLemmas.{batch-few, only-refusals, any_reply, no_memory-may}
+use Rattle.kv_serve.proofs.OwnLemmas.{only-refusals, no_memory-may}
 use Rattle.kv_serve.proofs.RecoverLemmas.{writes-more, recovers-same, recovers-more}
 use Rattle.kv_serve.proofs.ReplyLemmas.{any_unsure-is, sure-none, const-refusals, disk_fault-may}
 use Rattle.kv_serve.proofs.ReplyLemmas.{closed-may, spent-may}

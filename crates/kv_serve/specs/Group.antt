@@ -1,5 +1,5 @@
 -- How a group's tasks go into a batch, and how their replies come back.
-use Rattle.std.specs.Prelude.{ℕ, List, [], ◌∷◌, map, filter, Option, None, Some, Bool, not, is_some}
+use Rattle.std.specs.Prelude.{ℕ, List, [], ◌∷◌, map, Option, None, Some, Bool, not, is_some}
 use Rattle.kv_base.specs.declared.reply.Reply.{Reply}
 use Rattle.kv_ring.specs.declared.task.Task.{Task}
 

@@ -231,12 +231,7 @@ fn page_of(begin: &[u8]) -> [u8; 4096] {
 
 // A new disk whose listed calls fail.
 fn disk_over(alloc: Global, fails: &[u32]) -> Result<MemDisk, Fail> {
-    Ok(MemDisk::new(
-        alloc,
-        64,
-        2_048,
-        Calls::of(alloc, fails)?,
-    )?)
+    Ok(MemDisk::new(alloc, 64, 2_048, Calls::of(alloc, fails)?)?)
 }
 
 // A site with the disk in D.
@@ -449,10 +444,13 @@ fn behind_the_last_stamp_all_are_spent(rt: HostRuntime) -> Result<(), Fail> {
     let mut site = site_over(alloc, disk)?;
     let input = joined(alloc, &[PUT_A_1, FLUSH, PUT_A_1])?;
     // Stored at 2^62 - 1, then stamps would begin at 2^62.
-    let output = joined(alloc, &[
-        b"\x09\0\0\0\x81\xFF\xFF\xFF\xFF\xFF\xFF\xFF\x3F",
-        b"\x09\0\0\0\xE8\0\0\0\0\0\0\0\x40",
-    ])?;
+    let output = joined(
+        alloc,
+        &[
+            b"\x09\0\0\0\x81\xFF\xFF\xFF\xFF\xFF\xFF\xFF\x3F",
+            b"\x09\0\0\0\xE8\0\0\0\0\0\0\0\x40",
+        ],
+    )?;
     let ended = serve(alloc, &mut site, input.as_slice(), 4_096, &[])?;
     assert_eq!(rt; ended.status, 0);
     assert!(rt; output_of(&site) == output.as_slice());

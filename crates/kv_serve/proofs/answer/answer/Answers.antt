@@ -1,11 +1,11 @@
 -- the tasks that wait make the batch, and the replies come back in their order
-use Rattle.std.proofs.Common.{◌≡◌, ◌≤◌, ◌++◌, arith, sym, ap, subst, ◌∙◌, filter, length, map, List}
+use Rattle.std.proofs.Common.{arith, sym, ap, subst, ◌∙◌, filter, length, List}
 use Rattle.kv_base.specs.declared.request.Request.{Request}
 use Rattle.kv_worker.specs.Batches.{requests_in}
 use Rattle.kv_serve.specs.Group.{waits, of_session, filled, replies_from}
 use Rattle.kv_serve.specs.Outcome.{HasOutcome}
 use Rattle.kv_ring.specs.Tasks.{replies_of}
-use Rattle.kv_serve.proofs.GroupLemmas.{lent-is, waits-same}
+use Rattle.kv_serve.proofs.GroupLemmas.{lent-is}
 use Rattle.kv_serve.proofs.OutcomeLemmas.{open-alone, good-tasks, few-open, as-many, merged}
 use Rattle.kv_serve.proofs.OutcomeLemmas.{open-tasks, batch-only, as-waiting, waiting-many, requests-many}
 use Rattle.kv_serve.proofs.answer.answer.Goals as goal

@@ -1,10 +1,10 @@
 -- a closed worker answers each so, and a counter without stamps too
-use Rattle.std.proofs.Common.{◌≡◌, ◌<◌, ◌≤◌, ◌+◌, ◌^◌, ◌⊎◌, inl, inr, map, length, refl, sym, ap}
-use Rattle.std.proofs.Common.{◌∙◌, arith, true, false, subst, List, ℕ}
+use Rattle.std.proofs.Common.{◌≡◌, ◌<◌, ◌+◌, ◌^◌, ◌⊎◌, inl, inr, map, length, refl, sym, ap}
+use Rattle.std.proofs.Common.{◌∙◌, arith, true, false, subst, ℕ}
 use Rattle.std.proofs.lemmas.List.{length-map}
 use Rattle.kv_base.specs.declared.reply.Reply.TheVariants.{Closed, StampsSpent}
 use Rattle.kv_ring.specs.declared.task.Task.{Task}
-use Rattle.kv_worker.specs.Batches.{AreAnswered, requests_in}
+use Rattle.kv_worker.specs.Batches.{requests_in}
 use Rattle.kv_serve.proofs.GroupLemmas.{lent-is}
 use Rattle.kv_serve.proofs.OutcomeLemmas.{all-framed, frame-closed, frame-spent, refused-spent}
 use Rattle.kv_serve.proofs.answer.answer_batch.Goals as goal

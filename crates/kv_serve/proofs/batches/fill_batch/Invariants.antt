@@ -1,4 +1,4 @@
-use Rattle.std.proofs.Common.{◌≡◌, ◌+◌, ◌≤◌, ◌++◌, filter, length, take, drop}
+use Rattle.std.proofs.Common.{◌≡◌, ◌+◌, ◌++◌, filter, length, take, drop}
 use Rattle.kv_ring.specs.Tasks.{replies_of}
 use Rattle.kv_serve.specs.Group.{waits, of_session}
 use Rattle.kv_serve.proofs.batches.fill_batch.Given as goal

@@ -1,4 +1,4 @@
-use Rattle.std.proofs.Common.{◌≡◌, ◌++◌, drop, take, map}
+use Rattle.std.proofs.Common.{◌≡◌, drop, take, map}
 use Rattle.kv_base.specs.declared.reply.Reply.TheVariants.{StampsSpent}
 use Rattle.kv_worker.specs.Batches.{AreAnswered, requests_in}
 use Rattle.kv_serve.proofs.batches.refuse.Given as goal

@@ -1,4 +1,4 @@
-use Rattle.std.proofs.Common.{◌≡◌, ◌+◌, ◌≤◌, ◌++◌, length, take, drop, filter}
+use Rattle.std.proofs.Common.{◌≡◌, ◌+◌, ◌++◌, length, take, drop, filter}
 use Rattle.kv_ring.specs.Tasks.{replies_of}
 use Rattle.kv_serve.specs.Group.{waits, filled, replies_from}
 use Rattle.kv_serve.proofs.batches.take_replies.Given as goal

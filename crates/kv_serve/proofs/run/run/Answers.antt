@@ -1,5 +1,5 @@
 -- before the first group, and behind one more
-use Rattle.std.proofs.Common.{[], ◌≡◌, arith, ◌≤◌}
+use Rattle.std.proofs.Common.{[], arith}
 use Rattle.kv_session.specs.Passage.{Streams}
 use Rattle.kv_serve.proofs.BeginLemmas.{begins-run, first-ahead}
 use Rattle.kv_serve.proofs.SessionLemmas.{new-session}

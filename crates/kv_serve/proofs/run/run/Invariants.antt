@@ -1,4 +1,4 @@
-use Rattle.std.proofs.Common.{◌≡◌, ℕ, ◌+◌, ◌-◌, ◌^◌, ◌≤◌, List, [], None, length, true}
+use Rattle.std.proofs.Common.{◌≡◌, ℕ, ◌+◌, ◌-◌, ◌^◌, ◌≤◌, List, [], length, true}
 use Rattle.kv_model.specs.History.{Write}
 use Rattle.kv_model.specs.Pairs.{Pair}
 use Rattle.kv_session.specs.Passage.{Streams}

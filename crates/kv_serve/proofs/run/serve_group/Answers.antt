@@ -1,5 +1,5 @@
 -- the group is read, answered and delivered
-use Rattle.std.proofs.Common.{◌≡◌, ◌∙◌, arith, None, Some, true, List, length, sym, subst}
+use Rattle.std.proofs.Common.{arith, List}
 use Rattle.kv_model.specs.BatchLaws.{pairs_of}
 use Rattle.kv_model.specs.Pairs.{Pair}
 use Rattle.kv_session.specs.Passage.{Streams, with_pairs}

@@ -5,8 +5,9 @@ use Rattle.std.proofs.Common.{refl, sym, ap, ◌∙◌, subst, add-one, arith}
 use Rattle.std.proofs.lemmas.List.{append_assoc}
 use Rattle.std.specs.List.{insert, remove}
 use Rattle.kv_tree.specs.Subtree.{Pair, Subtree, weave, behind, depth_over, level_of}
-use Rattle.kv_tree.specs.Subtree.{sum_in, nodes_in, inner_over, IsKid, IsThinAt, AreKids}
-use Rattle.kv_tree.specs.Subtree.{AreKidsBut, IsThin, IsShape}
+use Rattle.kv_tree.specs.Subtree.{sum_in, nodes_in, inner_over, IsKid, AreKids}
+use Rattle.kv_tree.specs.Subtree.{IsShape}
+use Rattle.kv_tree.specs.Uneven.{AreKidsBut, IsThin, IsThinAt}
 use Rattle.kv_tree.proofs.WeaveLemmas.{append_none}
 use Rattle.kv_tree.proofs.FillLemmas.{shape_inner, own_level, depth_is, inner_is}
 use Rattle.kv_tree.proofs.SetLemmas.{length_set, length_insert}

@@ -14,10 +14,11 @@ use Rattle.kv_index.proofs.EntriesLemmas.{one_key}
 use Rattle.kv_index.proofs.PlacesLemmas.{at-lt, gap-le, without_at, without_gap, first, second}
 use Rattle.kv_index.proofs.PlacesLemmas.{less, kept}
 use Rattle.kv_tree.specs.Subtree.{Pair, Subtree, weave, behind, subtree, depth_over, level_of}
-use Rattle.kv_tree.specs.Subtree.{sum_in, nodes_in, inner_over, IsKid, IsThin, AreKids, AreKidsBut}
+use Rattle.kv_tree.specs.Subtree.{sum_in, nodes_in, inner_over, IsKid, AreKids}
 use Rattle.kv_tree.specs.Subtree.{IsShape, IsNode, without}
 use Rattle.kv_tree.proofs.WeaveLemmas.{kid_level, order, IsBelow, Rises, IsFocus, AtKid}
 use Rattle.kv_tree.specs.Subtree.{Past}
+use Rattle.kv_tree.specs.Uneven.{AreKidsBut, IsThin}
 use Rattle.kv_tree.proofs.WeaveLemmas.{AtItem, yes}
 use Rattle.kv_tree.proofs.WeaveLemmas.{past_item, rises_right, leaf_weave}
 use Rattle.kv_tree.proofs.WeaveLemmas.{shape_length}

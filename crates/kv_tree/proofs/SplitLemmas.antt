@@ -3,7 +3,8 @@ use Rattle.std.proofs.Common.{◌≡◌, ℕ, zero, suc, ◌+◌, ◌<◌, ◌�
 use Rattle.std.proofs.Common.{length, get_or, set, take, drop, sym, ap, ◌∙◌, subst, arith}
 use Rattle.std.specs.List.{insert}
 use Rattle.kv_tree.specs.Subtree.{Pair, Subtree, behind, weave, level_of}
-use Rattle.kv_tree.specs.Subtree.{IsKid, AreKids, AreKidsBut, IsOver}
+use Rattle.kv_tree.specs.Subtree.{IsKid, AreKids}
+use Rattle.kv_tree.specs.Uneven.{AreKidsBut, IsOver}
 use Rattle.kv_tree.proofs.WeaveLemmas.{weave_kid, depth_level}
 use Rattle.kv_tree.proofs.FillLemmas.{shape_inner, own_level, depth_is}
 use Rattle.kv_tree.proofs.SetLemmas.{length_set, length_insert, weave_split_kid}

@@ -2,8 +2,8 @@ ghost use Rattle.std.specs.Prelude.{◌∷◌, ◌++◌, ◌≡◌, ◌+◌, ◌
 ghost use Rattle.std.specs.Prelude.{vec_capacity};
 ghost use Rattle.kv_tree.specs.Subtree.{weave, joined_pairs, joined_nodes, joined_inner, nodes_in};
 ghost use Rattle.kv_tree.specs.Subtree.{inner_over, depth_over, level_of, IsNode, IsKid};
-ghost use Rattle.kv_tree.specs.Subtree.{AreKidsBut};
-ghost use Rattle.kv_tree.specs.Subtree.{IsThin, IsThinAt, TakesAtMost};
+ghost use Rattle.kv_tree.specs.Subtree.{TakesAtMost};
+ghost use Rattle.kv_tree.specs.Uneven.{AreKidsBut, IsThin, IsThinAt};
 
 use crate::item::Item;
 use crate::moves::{

@@ -1,7 +1,8 @@
 ghost use Rattle.std.specs.Prelude.{[], ◌∷◌, ◌++◌, ◌≡◌, ◌+◌, ◌<◌, ◌≤◌, vec_len};
 ghost use Rattle.std.specs.Prelude.{vec_capacity};
 ghost use Rattle.kv_tree.specs.Subtree.{weave, nodes_in, inner_over, depth_over, level_of};
-ghost use Rattle.kv_tree.specs.Subtree.{AreKidsBut, IsNode, IsKid, IsOver, TakesAtMost};
+ghost use Rattle.kv_tree.specs.Subtree.{IsNode, IsKid, TakesAtMost};
+ghost use Rattle.kv_tree.specs.Uneven.{AreKidsBut, IsOver};
 
 use crate::item::Item;
 use crate::moves::{insert_within, move_tail, take_last};

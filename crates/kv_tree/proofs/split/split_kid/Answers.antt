@@ -1,6 +1,7 @@
 use Rattle.std.proofs.Common.{◌≡◌, ◌+◌, ◌<◌, length, set, suc, add-one, ap, arith}
 use Rattle.std.specs.List.{insert}
-use Rattle.kv_tree.specs.Subtree.{level_of, nodes_in, inner_over, IsOver}
+use Rattle.kv_tree.specs.Subtree.{level_of, nodes_in, inner_over}
+use Rattle.kv_tree.specs.Uneven.{IsOver}
 use Rattle.kv_tree.proofs.SetLemmas.{split_nodes, split_inner}
 use Rattle.kv_tree.proofs.RefillLemmas.{IsEvened}
 use Rattle.kv_tree.proofs.SplitLemmas.{over_at, parted}

@@ -295,7 +295,8 @@ returns-then-len-gt0-2-clause-kid t c kid enough =
     let h : IsShrunk c.index_mut-kid-then-len-gt0-2.result.now c.remove-found.new.self =
     record { depth = e.depth; fewer = e.fewer; own = e.own; kid = e.kid } in
     still_kid _ _ _ _ _ c.refill-then-len-gt0-2.ensures.node
-    (c.refill-then-len-gt0-2.ensures.depth ∙ shrunk_depth k _ h) enough (omega (arith, c.requires.few, ap (λ (s : Subtree). s.own) c.self.view_is))
+    (c.refill-then-len-gt0-2.ensures.depth ∙ shrunk_depth k _ h) enough
+    (omega (arith, c.requires.few, ap (λ (s : Subtree). s.own) c.self.view_is))
 
 -- no pair of a leaf has the key
 pub returns-else-len-gt0-2-clause-value : goal.returns-else-len-gt0-2-clause-value

@@ -2,7 +2,8 @@ use Rattle.std.proofs.Common.{◌≡◌, ◌<◌, ◌≤◌, length, set, is_som
 use Rattle.kv_index.proofs.PlacesLemmas.{at-lt, gap-le}
 use Rattle.std.proofs.lemmas.Cmp.{nat_list_cmp_total}
 use Rattle.kv_index.specs.declared.entry.Entry.{Entry}
-use Rattle.kv_tree.specs.Subtree.{Subtree, IsKid, IsOver, HasWidth, level_of}
+use Rattle.kv_tree.specs.Subtree.{Subtree, IsKid, HasWidth, level_of}
+use Rattle.kv_tree.specs.Uneven.{IsOver}
 use Rattle.kv_tree.proofs.WeaveLemmas.{own_rising, AtKid, at_kid, at_item, find_item, find_focus}
 use Rattle.kv_tree.proofs.WeaveLemmas.{find_leaf}
 use Rattle.kv_tree.proofs.SetLemmas.{put_own, put_kid, shape_set, length_set, Grown, grown_kid}

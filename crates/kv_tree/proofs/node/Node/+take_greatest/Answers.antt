@@ -77,4 +77,5 @@ returns-then-count-gt0-clause-inner t c =
 pub returns-then-count-gt0-clause-kid : goal.returns-then-count-gt0-clause-kid
 returns-then-count-gt0-clause-kid t c kid enough =
     still_kid _ _ _ _ _ c.refill.ensures.node (c.refill.ensures.depth
-    ∙ shrunk_depth (of_kid t c.before) _ (shrunk t c.before)) enough (omega (arith, c.requires.few, ap (λ (s : Subtree). s.own) c.self.view_is))
+    ∙ shrunk_depth (of_kid t c.before) _ (shrunk t c.before)) enough
+    (omega (arith, c.requires.few, ap (λ (s : Subtree). s.own) c.self.view_is))

@@ -14,8 +14,6 @@ mod run;
 mod serve;
 mod serve_disk;
 mod status;
-#[cfg(test)]
-mod tests;
 mod top;
 mod words;
 

@@ -1,5 +1,5 @@
 -- What a store has once a plan of a batch's net changes was carried out.
-use Rattle.std.proofs.Common.{◌≡◌, ℕ, ◌+◌, ◌-◌, ◌*◌, ◌≤◌, ◌<◌, Bool, true, false, cond, IsTrue, List, [], ◌∷◌}
+use Rattle.std.proofs.Common.{◌≡◌, ℕ, suc, ◌+◌, ◌-◌, ◌*◌, ◌≤◌, ◌<◌, Bool, true, false, IsTrue, List, [], ◌∷◌}
 use Rattle.std.proofs.Common.{map, Option, None, Some, Result, Ok, Err, OnOk, OnErr, inl, inr, refl, sym}
 use Rattle.std.proofs.Common.{ap, ◌∙◌, subst, length, arith, true≢false, slice_get, min, ◌^◌}
 use Rattle.std.proofs.Common.{Vec}
@@ -23,8 +23,6 @@ use Rattle.kv_model.specs.BatchLaws.{RiseBetween}
 use Rattle.kv_model.specs.Frames.{HasReplyFrame}
 use Rattle.kv_model.specs.History.{Write}
 use Rattle.kv_model.specs.Items.{HasChanges}
-use Rattle.kv_model.specs.Layout.{all_classes}
-use Rattle.kv_model.specs.Reading.{heads_at}
 use Rattle.kv_model.proofs.NetLemmas.{DifferentKeys}
 use Rattle.kv_model.proofs.PairwiseLemmas.{All-map}
 use Rattle.kv_model.proofs.ReadingLemmas.{RiseBetween-below}
@@ -44,7 +42,8 @@ use Rattle.kv_worker.specs.Steps.{HasRefusal}
 use Rattle.kv_worker.specs.Worker.{start_of}
 use Rattle.kv_worker.proofs.ChangedLemmas.{changed-value, entry-below, entry-class}
 use Rattle.kv_worker.proofs.ListLemmas.{all-at}
-use Rattle.kv_worker.proofs.PlanLemmas.{floor-raised, write-at}
+use Rattle.kv_worker.proofs.FloorLemmas.{below-up, floor-raised, up-below}
+use Rattle.kv_worker.proofs.PlanLemmas.{write-at}
 use Rattle.kv_worker.proofs.StillLemmas.{IsStill, start-still}
 
 -- an open store has counted no fault
@@ -99,16 +98,14 @@ framed-failed (request ∷ requests) (reply ∷ replies) stamp small framed = (
   framed-failed requests replies (stamp + 1) (omega (arith, small)) framed.1,
 )
 
-up-to : (low high : ℕ) (image : Image) → low ≤ high + 1 → HasFloorBelow low image
-    → HasFloorUpTo high image
-up-to low high image le floor = λ class slot. All-map (λ head. head < low) (λ head. head ≤ high)
-    (heads_at all_classes image class slot) (λ head lt. omega (arith, lt, le)) (floor class slot)
-
-below-from : (high bound : ℕ) (image : Image) → high < bound → HasFloorUpTo high image
-    → HasFloorBelow bound image
-below-from high bound image lt floor = λ class slot. All-map (λ head. head ≤ high)
-    (λ head. head < bound) (heads_at all_classes image class slot) (λ head le. omega (arith, le, lt))
-    (floor class slot)
+-- a failed batch has a reply for each request too
+pub length-failed : (requests : List Request) (replies : List Reply) (stamp : ℕ)
+    → length replies ≡ length requests
+    → length (failed_replies stamp requests replies) ≡ length requests
+length-failed [] replies stamp same = refl
+length-failed (request ∷ requests) [] stamp same = absurd (omega (arith, same))
+length-failed (request ∷ requests) (reply ∷ replies) stamp same =
+    ap suc (length-failed requests replies (stamp + 1) (omega (arith, same)))
 
 changes-up-to : (changes : List Change) (high : ℕ)
     → AllByRecursion (λ write. write.stamp < high + 1) (writes_of changes) → AreUpTo high changes
@@ -193,11 +190,11 @@ module _ {D I : Type 0} (d : disks.Ghosts D) (i : indexes.Ghosts I) where
         stamps = λ key. entry-below changes key (finite.get (i.entries planned.index) key)
             (finite.get (i.entries new.index) key) bound (carried.entries key) below
             (λ e is. let under = before.stamps key e is in omega (arith, under, lt));
-        floor = λ tells. below-from (bound - 1) bound (d.seen new.disk.disk) (omega (arith, lt))
+        floor = λ tells. below-up (bound - 1) bound (d.seen new.disk.disk) (omega (arith, lt))
             (carried.floor (bound - 1) tells
             (changes-up-to changes (bound - 1) (All-map (λ write. write.stamp < bound)
             (λ write. write.stamp < bound - 1 + 1) (writes_of changes)
             (λ write under. omega (arith, under)) below))
-            (up-to base (bound - 1) (d.seen planned.disk.disk) (omega (arith, lt))
+            (up-below (bound - 1) base (d.seen planned.disk.disk) (omega (arith, lt))
             (before.floor tells)));
       }

@@ -20,3 +20,6 @@ pub mod MomentLemmas
 pub mod StepLemmas
 pub mod AfterLemmas
 pub mod MayPlanLemmas
+pub mod WorkerLemmas
+pub mod FloorLemmas
+pub mod RunLemmas

@@ -16,8 +16,7 @@ use Rattle.kv_model.specs.Batch.{Start, accepted_writes, changes_something, last
 use Rattle.kv_model.specs.BatchLaws.{RiseBetween}
 use Rattle.kv_model.specs.History.{Write}
 use Rattle.kv_model.specs.Pairwise.{Pairwise}
-use Rattle.kv_model.specs.Reading.{Reading, heads_at, slot_at}
-use Rattle.kv_model.specs.Layout.{all_classes}
+use Rattle.kv_model.specs.Reading.{Reading}
 use Rattle.kv_model.proofs.NetLemmas.{DifferentKeys, DifferentKeys-filter, DifferentKeys-last_writes}
 use Rattle.kv_model.proofs.NetLemmas.{RiseBetween-filter, RiseBetween-last_writes}
 use Rattle.kv_model.proofs.NetLemmas.{RiseBetween-accepted_writes}
@@ -34,6 +33,7 @@ use Rattle.kv_worker.specs.Net.{write_of, writes_of}
 use Rattle.kv_worker.specs.Steps.{net_of}
 use Rattle.kv_worker.specs.Worker.{value_told}
 use Rattle.kv_worker.specs.declared.pass.Pass.{Pass}
+use Rattle.kv_worker.proofs.FloorLemmas.{floor-raised}
 use Rattle.kv_worker.proofs.ListLemmas.{all-at, pairwise-at, filter-passes}
 use Rattle.kv_worker.proofs.TaskWriteLemmas.{IsOwnWrite}
 
@@ -137,17 +137,6 @@ net-present start tells read entries requests base values =
 pub write-at : (changes : List Change) (i : ℕ) (c : Change) → slice_get changes i ≡ Some c
     → slice_get (writes_of changes) i ≡ Some (write_of c)
 write-at changes i c is = slice_get-map write_of changes i ∙ ap (option_map write_of) is
-
-heads-below : (low high : ℕ) (heads : List ℕ) → low ≤ high
-    → AllByRecursion (λ head. head < low) heads → AllByRecursion (λ head. head < high) heads
-heads-below low high heads le all =
-    All-map (λ head. head < low) (λ head. head < high) heads (λ head lt. omega (arith, lt, le)) all
-
--- stamps below one bound are below a greater one
-pub floor-raised : (low high : ℕ) (image : Image) → low ≤ high → HasFloorBelow low image
-    → HasFloorBelow high image
-floor-raised low high image le floor = λ class slot.
-    heads-below low high (heads_at all_classes image class slot) le (floor class slot)
 
 -- changes of different keys of this worker, with good sizes and rising stamps from the base on, may
 -- be planned where all stamps are below the base and there is room

@@ -1,5 +1,7 @@
 -- An open store that a batch finds, and what a batch found out before anything is written.
-use Rattle.std.specs.Prelude.{◌≡◌, ℕ, ◌-◌, ◌≤◌, ◌<◌, List, [], map, count_by, Some, Bool, IsTrue}
+use Rattle.std.specs.Prelude.{◌≡◌, ℕ, ◌+◌, ◌-◌, ◌≤◌, ◌<◌, ◌^◌, List, [], length, map, count_by, Some}
+use Rattle.std.specs.Prelude.{Bool, false, IsTrue, Result, IfOk, Vec}
+use Rattle.std.specs.declared.alloc.Global.{Global}
 use Rattle.std.specs.List.{AllByRecursion}
 use Rattle.std.specs.FinMap as finite
 use Rattle.kv_base.specs.Crash.{MayLeave, Only}
@@ -16,11 +18,15 @@ use Rattle.kv_model.specs.Frames.{HasReplyFrame}
 use Rattle.kv_model.specs.Head.{IsWorker}
 use Rattle.kv_slab.specs.Floor.{HasFloorBelow}
 use Rattle.kv_slab.specs.View.{IsOfWorker, KeepsMap, View, store_map}
+use Rattle.kv_ring.specs.declared.task.Task.{Task}
 use Rattle.kv_slab.specs.declared.change.Change.{Change}
+use Rattle.kv_slab.specs.declared.fault.StepFault.{StepFault}
+use Rattle.kv_worker.specs.Batches.{IsOpenTask, requests_in}
 use Rattle.kv_worker.specs.Course.{AreClassed}
 use Rattle.kv_worker.specs.Net.{writes_of}
 use Rattle.kv_worker.specs.Reads.{IsReady}
-use Rattle.kv_worker.specs.Steps.{net_of}
+use Rattle.kv_worker.specs.Refusals.{replies_by}
+use Rattle.kv_worker.specs.Steps.{Steps, net_of}
 use Rattle.kv_worker.specs.Worker.{start_of}
 
 -- each entry has a stamp below the bound, and so has each head of a page where the disk tells what
@@ -60,3 +66,23 @@ pub record ArePrepared (told : Bool) (start : Start) (requests : List Request) (
   pub room : (class : ℕ) → 1 ≤ class → class ≤ 11
       → count_by (takes_slot start class) (net_of start base requests)
       ≤ start.limit - start.items class
+
+-- tasks of this worker at its open store, 512 at most, with stamps from the base on
+pub record IsBatch {D I : Type 0} (d : disks.Ghosts D) (i : indexes.Ghosts I) (old : View D I)
+    (tasks : List (ℕ × Task)) (base : ℕ) : Type 0 where
+  pub opened : IsOpenStore d i old base
+  pub own : AllByRecursion (IsOpenTask old.worker old.workers) tasks
+  pub few : length tasks ≤ 512
+  pub first : 1 ≤ base
+  pub last : base + length tasks ≤ 2 ^ 62
+
+-- a step over the tasks was made, and there is a reply for each; at an open store the stamps are
+-- below the batch's end
+pub record IsRun {D I : Type 0} (d : disks.Ghosts D) (i : indexes.Ghosts I) (old new : View D I)
+    (tasks : List (ℕ × Task)) (base : ℕ) (result : Result (Vec Reply Global) StepFault) :
+    Type 0 where
+  pub steps : Steps d i (record { store = old; highest = base - 1 })
+      (record { store = new; highest = base + length tasks - 1 }) (requests_in tasks) base
+      (replies_by result (requests_in tasks))
+  pub many : IfOk result (λ replies. length replies.items ≡ length tasks)
+  pub below : new.closed ≡ false → AreBelow d i new (base + length tasks)

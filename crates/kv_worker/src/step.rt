@@ -1,9 +1,4 @@
-ghost use Rattle.std.specs.Prelude.{◌≡◌, ◌+◌, ◌-◌, ◌≤◌, ◌^◌, length, false};
-ghost use Rattle.std.specs.List.{AllByRecursion};
-ghost use Rattle.kv_worker.specs.Batches.{IsOpenTask, requests_in};
-ghost use Rattle.kv_worker.specs.Open.{AreBelow, IsOpenStore};
-ghost use Rattle.kv_worker.specs.Refusals.{replies_by};
-ghost use Rattle.kv_worker.specs.Steps.{Steps};
+ghost use Rattle.kv_worker.specs.Open.{IsBatch, IsRun};
 
 use crate::fail::fail_all;
 use crate::prepare::{Prepared, prepare};
@@ -23,16 +18,8 @@ pub fn run<D: Disk, I: Index>(
     tasks: &[(u32, Task)],
     base: u64,
 ) -> Result<Vec<Reply>, StepFault>
-    requires opened { IsOpenStore ⟦<D as Disk>⟧ ⟦<I as Index>⟧ slabs.old base }
-    requires tasks { AllByRecursion (IsOpenTask slabs.old.worker slabs.old.workers) tasks.now }
-    requires few { length tasks.now ≤ 512 }
-    requires stamps { (1 ≤ base) × (base + length tasks.now ≤ 2 ^ 62) }
-    ensures steps { Steps ⟦<D as Disk>⟧ ⟦<I as Index>⟧
-        (record { store = slabs.old; highest = base - 1 })
-        (record { store = slabs.new; highest = base + length tasks.now - 1 })
-        (requests_in tasks.now) base (replies_by result (requests_in tasks.now)) }
-    ensures below { slabs.new.closed ≡ false → AreBelow ⟦<D as Disk>⟧ ⟦<I as Index>⟧ slabs.new
-        (base + length tasks.now) }
+    requires { IsBatch ⟦<D as Disk>⟧ ⟦<I as Index>⟧ slabs.old tasks.now base }
+    ensures { IsRun ⟦<D as Disk>⟧ ⟦<I as Index>⟧ slabs.old slabs.new tasks.now base result }
 {
     // By these laws what a crash leaves is a prefix of the writes.
     old_or_new_reads_as_all();

@@ -8,6 +8,9 @@ ghost use Rattle.kv_worker.specs.Batches.{AreAnswered, IsOpenTask, requests_in};
 ghost use Rattle.kv_worker.specs.Steps.{Steps};
 
 use crate::batch::Batch;
+use crate::fill::{refuse_all, set_replies};
+use crate::refusal::Refusal;
+use crate::step::run;
 use kv_base::NoMemory;
 use kv_disk::Disk;
 use kv_index::Index;
@@ -37,7 +40,7 @@ impl<D: Disk, I: Index> Model for Worker<D, I> {
 
     ghost invariant = { λ w. record {
       worker_is : IsWorker w.slabs.worker w.slabs.workers;
-      stamps : (key : List ℕ) (entry : Entry)
+      stamps : w.slabs.closed ≡ false → (key : List ℕ) (entry : Entry)
           → finite.get (I.entries w.slabs.index) key ≡ Some entry → entry.stamp ≤ w.highest;
       floor : w.slabs.closed ≡ false → IsTrue D.tells
           → HasFloorUpTo w.highest (D.seen w.slabs.disk.disk);
@@ -56,7 +59,11 @@ impl<D: Disk + Drop, I: Index + Drop> Worker<D, I> {
         ensures err { IfErr result (λ refused. refused.0 ≡ opened) }
     {
         let _ = alloc;
-        Err((opened, NoMemory))
+        let Opened { slabs, floor } = opened;
+        Ok(Worker {
+            slabs,
+            highest: floor,
+        })
     }
 
     /// Answers the tasks of a batch, 1 to 512, with the stamps from `base` on, and writes what they
@@ -77,7 +84,16 @@ impl<D: Disk + Drop, I: Index + Drop> Worker<D, I> {
             × AreAnswered batch.old.items batch.new.items (map (λ _. Closed)
             (requests_in batch.old.items)) }
     {
-        let _ = (alloc, base);
+        if self.slabs.closed() {
+            refuse_all(batch, Refusal::Closed);
+            return;
+        }
+        let tasks = batch.as_slice();
+        self.highest = base + (tasks.len() as u64 - 1);
+        match run(alloc, &mut self.slabs, tasks, base) {
+            Ok(replies) => set_replies(batch, replies),
+            Err(fault) => refuse_all(batch, Refusal::Fault(fault)),
+        }
     }
 
     /// The floor before the first batch, then the last stamp of the latest batch, whatever became of

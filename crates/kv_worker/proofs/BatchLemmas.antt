@@ -87,12 +87,12 @@ pub can-answer : (told : Bool) (start now : Start) (requests : List Request) (i 
     now request task stamp
 can-answer told start now requests i task base stamp request replies pass same at is_stamp within is
     done = record {
-  follows = done.follows;
-  found = sym same;
-  asked = subst (λ n. slice_get requests n ≡ Some request) (sym at)
-      (slice_get_read requests (length requests) i request refl within is);
-  stamped = is_stamp;
-}
+      follows = done.follows;
+      found = sym same;
+      asked = subst (λ n. slice_get requests n ≡ Some request) (sym at)
+          (slice_get_read requests (length requests) i request refl within is);
+      stamped = is_stamp;
+    }
 
 -- a get leaves the pass
 pub gets-in : (told : Bool) (pass : Pass) (now : Start) (asked : List Request) (request : Request)

@@ -31,8 +31,25 @@ class-limit : (k v class : ℕ) → class_of all_classes k v ≡ Some class → 
 class-limit k v class is = by (is_key_length all_classes k) is
   where
     few : AllByRecursion (λ c. c ≤ 11) all_classes.classes
-    few = (omega arith, (omega arith, (omega arith, (omega arith, (omega arith, (omega arith,
-        (omega arith, (omega arith, (omega arith, (omega arith, (omega arith, tt)))))))))))
+    few = (
+      omega arith,
+      (
+        omega arith,
+        (
+          omega arith,
+          (
+            omega arith,
+            (
+              omega arith,
+              (
+                omega arith,
+                (omega arith, (omega arith, (omega arith, (omega arith, (omega arith, tt))))),
+              ),
+            ),
+          ),
+        ),
+      ),
+    )
 
     by : (b : Bool) → cond b (find (λ c. nat_le (k + v) (room_of c)) all_classes.classes) None
         ≡ Some class → class ≤ 11

@@ -143,24 +143,24 @@ module _ {D I : Type 0} (d : disks.Ghosts D) (i : indexes.Ghosts I) where
         opens = opens-as old.worker old.workers image opened.worker_is of_worker;
         each = λ key. elim (either key) as (λ _. HasOldOrNew start base requests
             (slot_at all_classes image) old.worker old.workers key) [
-          | inl gives ↦ record {
-            value = start.value key;
-            gives = subst (GivesValue (slot_at all_classes image) old.worker old.workers key)
-                (value_is key) (gives-value (slot_at all_classes image) old.worker old.workers key
-                (store_map d i planned key) gives);
-            is = inl refl;
-          }
-          | inr gives ↦ record {
-            value = option_map given_value
-                (answer_after changes key (store_map d i planned key));
-            gives = gives-value (slot_at all_classes image) old.worker old.workers key
-                (answer_after changes key (store_map d i planned key)) gives;
-            is = inr (answer-last changes key (store_map d i planned key) differ
-                ∙ ap (λ v. value_or (last_write (writes_of changes) key) v) (value_is key)
-                ∙ ap (λ (ws : List Write). value_or (last_write ws key) (start.value key))
-                changes_are);
-          }
-        ];
+              | inl gives ↦ record {
+                value = start.value key;
+                gives = subst (GivesValue (slot_at all_classes image) old.worker old.workers key)
+                    (value_is key) (gives-value (slot_at all_classes image) old.worker old.workers key
+                    (store_map d i planned key) gives);
+                is = inl refl;
+              }
+              | inr gives ↦ record {
+                value = option_map given_value
+                    (answer_after changes key (store_map d i planned key));
+                gives = gives-value (slot_at all_classes image) old.worker old.workers key
+                    (answer_after changes key (store_map d i planned key)) gives;
+                is = inr (answer-last changes key (store_map d i planned key) differ
+                    ∙ ap (λ v. value_or (last_write (writes_of changes) key) v) (value_is key)
+                    ∙ ap (λ (ws : List Write). value_or (last_write ws key) (start.value key))
+                    changes_are);
+              }
+            ];
       }
 
   -- while changes are written, a crash leaves what has P, where each image as before the batch or

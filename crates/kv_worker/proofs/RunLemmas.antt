@@ -43,8 +43,11 @@ use Rattle.kv_worker.proofs.TaskWriteLemmas.{keyed-tasks}
 pub no-items : (changes : List Change) (length_is : ℕ) → length_is ≡ length changes
     → eqb length_is 0 ≡ true → changes ≡ []
 no-items [] many is none = refl
-no-items (c ∷ cs) many is none = absurd (let zero_is = eqb-true many 0 none in omega (arith, is,
-    zero_is))
+no-items (c ∷ cs) many is none = absurd (let zero_is = eqb-true many 0 none in omega (
+  arith,
+  is,
+  zero_is,
+))
 
 -- some change
 pub some-items : (changes : List Change) (many : ℕ) → many ≡ length changes

@@ -90,7 +90,6 @@ pub record Steps {D I : Type 0} (d : disks.Ghosts D) (i : indexes.Ghosts I) (old
       × (new.store.limits ≡ old.store.limits)
   pub calls : d.calls new.store.disk.disk
       ≤ d.calls old.store.disk.disk + 36 * length requests + 2
-
   -- at every moment a crash leaves of each key the value after a prefix of its writes, which holds
   -- all that were there before
   pub any_moment : (history : List Write) → Continues d i old.store base history
@@ -98,7 +97,6 @@ pub record Steps {D I : Type 0} (d : disks.Ghosts D) (i : indexes.Ghosts I) (old
       (d.leaves old.store.disk.disk) (d.leaves new.store.disk.disk)
       (λ image. RecoversPrefix all_classes (history ++ writes (pairs_of requests replies)
       ++ unsure_writes (pairs_of requests replies)) history image old.store.worker old.store.workers)
-
   -- afterwards, unless the store is closed, it leaves all that was answered Stored or Removed
   pub durable : (history : List Write) → Continues d i old.store base history
       → new.store.closed ≡ false → (image : Image)

@@ -69,7 +69,9 @@ fn change_for<D: Disk, I: Index>(
             change(alloc, key.as_slice(), stamp, Some(value))
         }
         Request::Delete { key } => {
-            if !is_last(pass, key.as_slice(), task) || slabs.class_of_key(key.as_slice()).is_none() {
+            if !is_last(pass, key.as_slice(), task)
+                || slabs.class_of_key(key.as_slice()).is_none()
+            {
                 return Ok(None);
             }
             change(alloc, key.as_slice(), stamp, None)

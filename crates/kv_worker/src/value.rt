@@ -24,13 +24,15 @@ fn value_written<'r>(tasks: &'r [(u32, Task)], task: u16) -> Option<&'r [u8]>
     ensures { option_copied result ≡ value_written (requests_in tasks.now) task }
 {
     match tasks.get(task as usize) {
-        Some((
-            _,
-            Task {
-                request: Request::Put { value, .. },
-                ..
-            },
-        )) => Some(value.as_slice()),
+        Some(
+            (
+                _,
+                Task {
+                    request: Request::Put { value, .. },
+                    ..
+                },
+            ),
+        ) => Some(value.as_slice()),
         _ => None,
     }
 }

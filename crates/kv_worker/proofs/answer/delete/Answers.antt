@@ -14,8 +14,7 @@ pub accept-requires : goal.accept-requires
 accept-requires g c =
     let a = c.args in
     let s = c.requires in
-    let now : Start = start_of g.D.Disk g.I.Index a.slabs.now in
-    (
+    let now : Start = start_of g.D.Disk g.I.Index a.slabs.now in (
       s.0,
       (
         s.1.0,

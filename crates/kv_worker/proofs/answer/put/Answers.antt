@@ -44,8 +44,7 @@ accept-requires g c =
     let full : false ≡ is_full_slot course.start s.2.1.0 a.key.now (slot_for course.start a.key.now
     a.class) = sym c.if-is_full.false ∙ full-at course s.2.1.0 a.pass.now now (Put a.key.now s.0)
     a.key.now c.find-before.result a.task a.stamp a.class c.slot_for-slot.result c.is_full.result
-    c.is_full.ensures c.find-before.ensures c.slot_for-slot.ensures stands in
-    (
+    c.is_full.ensures c.find-before.ensures c.slot_for-slot.ensures stands in (
       course,
       (
         s.2.1.0,

@@ -88,8 +88,7 @@ returns-clause-stepped g c = λ _.
           (replies_by c.run.result (requests_in old))) (sym w.batch-is)
           (subst (λ r. AreAnswered old w.refuse_all-in-Err.new.batch.items
           (replies_by r (requests_in old))) (sym w.in-Err.is) w.refuse_all-in-Err.ensures.answered)
-    ] in
-    (
+    ] in (
       replies_by c.run.result (requests_in old),
       answered,
       subst (λ v. Steps g.D.Disk g.I.Index v (record { store = c.run.new.slabs; highest = last })

@@ -2,6 +2,7 @@
  *
  *     loop FILE < requests > replies       requests in groups of 64 at most, which a Flush ends
  *     loop FILE.. --read PIECE             reads the files from front to end, PIECE bytes a call
+ *     loop FILE.. --open PIECE             the same, once each file or folder was synced
  *
  * Of a group each page that its puts touch is read once, where the file has it, and written once, in rising order; then
  * one fdatasync, one pread for each get, and one write for all replies. */
@@ -151,14 +152,18 @@ static int serve(const char *path) {
     return 0;
 }
 
-static int read_all(int files, char **paths, size_t piece) {
+static int read_all(int files, char **paths, size_t piece, int synced) {
     unsigned char *bytes = malloc(piece);
+    int *from = malloc(files * sizeof(int));
     uint64_t sum = 0;
     for (int i = 0; i < files; i++) {
-        int from = open(paths[i], O_RDONLY);
+        from[i] = open(paths[i], O_RDONLY);
+        if (synced && from[i] >= 0 && fdatasync(from[i])) exit(1);
+    }
+    for (int i = 0; i < files; i++) {
         ssize_t n;
         off_t at = 0;
-        while (from >= 0 && (n = pread(from, bytes, piece, at)) > 0) {
+        while (from[i] >= 0 && (n = pread(from[i], bytes, piece, at)) > 0) {
             sum += bytes[0];
             at += n;
         }
@@ -167,7 +172,8 @@ static int read_all(int files, char **paths, size_t piece) {
 }
 
 int main(int argc, char **argv) {
-    if (argc > 3 && strcmp(argv[argc - 2], "--read") == 0)
-        return read_all(argc - 3, argv + 1, strtoul(argv[argc - 1], NULL, 10));
+    int reads = argc > 3 && strcmp(argv[argc - 2], "--read") == 0;
+    int opens = argc > 3 && strcmp(argv[argc - 2], "--open") == 0;
+    if (reads || opens) return read_all(argc - 3, argv + 1, strtoul(argv[argc - 1], NULL, 10), opens);
     return argc == 2 ? serve(argv[1]) : 2;
 }

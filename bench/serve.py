@@ -6,8 +6,9 @@
 For values of 1,000 and of 100 bytes, and for groups of 64 and of 1 request: COUNT new items (COUNT / 10 in groups of 1),
 as many updates in another order, as many gets, and updates and gets in turn, each from a file, in one run; three runs
 each, interleaved. It prints requests a second, the best run and the median, and the peak memory for each item; then how
-long opening the store takes, beside reading its files page by page and in pieces of 1 MB. FOLDER is where the files go,
-by default one below /tmp.
+long opening the store takes, beside syncing what opening syncs and reading its files page by page, and beside reading
+them alone, page by page and in pieces of 1 MB; nine runs each, interleaved. FOLDER is where the files go, by default one
+below /tmp.
 """
 
 import glob
@@ -115,7 +116,7 @@ def measure(folder: str, loop: str, count: int, size: int, group: int) -> None:
     path, store = os.path.join(folder, "requests"), os.path.join(folder, "store")
     sizes = write_input(path, count, size, group)
     figures: dict[tuple[str, int], list[float]] = {}
-    peak = opening = pages = pieces = 0.0
+    peak = 0
     for _ in range(ROUNDS):
         for name, words in (("loop", [loop, store]), ("kvell", [KVELL, "serve", store, "1", "-", "-"])):
             remove(store)
@@ -125,9 +126,17 @@ def measure(folder: str, loop: str, count: int, size: int, group: int) -> None:
             if name == "kvell":
                 peak = memory
     files = sorted(glob.glob(os.path.join(store, "0", "*")))
-    opening = min(seconds_of([KVELL, "serve", store, "1", "-", "-"]) for _ in range(ROUNDS))
-    pages = min(seconds_of([loop, *files, "--read", "4096"]) for _ in range(ROUNDS))
-    pieces = min(seconds_of([loop, *files, "--read", str(1 << 20)]) for _ in range(ROUNDS))
+    folders = [os.path.join(store, "0"), store, folder]
+    ways = {
+        "kvell": [KVELL, "serve", store, "1", "-", "-"],
+        "opened": [loop, *files, *folders, "--open", "4096"],
+        "pages": [loop, *files, "--read", "4096"],
+        "pieces": [loop, *files, "--read", str(1 << 20)],
+    }
+    taken: dict[str, list[float]] = {name: [] for name in ways}
+    for _ in range(3 * ROUNDS):
+        for name, words in ways.items():
+            taken[name].append(seconds_of(words))
     remove(store)
     print(f"\n{count:,} items, values of {size:,} bytes, groups of {group}")
     print(f"{'':16}{'kvell':>22}{'loop':>22}{'ratio':>8}")
@@ -136,7 +145,15 @@ def measure(folder: str, loop: str, count: int, size: int, group: int) -> None:
         ratio = statistics.median(kvell) / statistics.median(twin)
         print(f"{what:16}{shown(kvell):>22}{shown(twin):>22}{ratio:8.2f}")
     print(f"peak memory {peak / 1024:.1f} MB, {peak * 1024 / count:.0f} bytes an item")
-    print(f"opening {opening:.3f} s; reading page by page {pages:.3f} s, in pieces of 1 MB {pieces:.3f} s", flush=True)
+    print("milliseconds of a whole program, the least and the median:")
+    for name, what in (
+        ("kvell", "kvell opens the store"),
+        ("opened", "loop syncs the same files and folders, and reads page by page"),
+        ("pages", "loop reads page by page"),
+        ("pieces", "loop reads in pieces of 1 MB"),
+    ):
+        least, median = (1_000 * figure(taken[name]) for figure in (min, statistics.median))
+        print(f"{what:64}{least:9.1f}{median:9.1f}", flush=True)
 
 
 def main() -> None:

@@ -6,8 +6,9 @@ use Rattle.std.specs.Prelude.{count_by, ◌&&◌, T}
 use Rattle.std.specs.Ordering.{nat_cmp, is_eq, is_lt, eq_by_cmp}
 use Rattle.std.specs.Cmp.Lexicographic.{slice_cmp}
 use Rattle.std.specs.FinMap as finite
-use Rattle.std.specs.FinMap.Entries.{put, find, is_sorted, below_all, by_order}
-use Rattle.std.proofs.lemmas.Bool.{cases_Bool, cases_eq, eq-eqb, ne_eqb, cond-true, cond-false}
+use Rattle.std.specs.FinMap.Entries.{put, find, is_sorted, below_all, by_order, find_tied}
+use Rattle.std.specs.Cmp.{tied_itself}
+use Rattle.std.proofs.lemmas.Bool.{cases_Bool, cases_eq, eq-eqb, ne_eqb, cond-true, cond-false, false≢true}
 use Rattle.std.proofs.lemmas.Cmp.{nat_list_cmp_total}
 use Rattle.std.proofs.lemmas.List.Sums.{count_by-le-length, sum_by-cons}
 use Rattle.kv_index.specs.declared.entry.Entry.{Entry}
@@ -229,3 +230,43 @@ counted-none entries none = record {
       ∙ finite.len-empty order Entry) in
       zero_at 12 class ∙ sym (ap (of_class class) empty);
 }
+
+is_equal : (r : Ordering) → is_eq r ≡ true → r ≡ Equal
+is_equal Less h = absurd (false≢true h)
+is_equal Equal h = refl
+is_equal Greater h = absurd (false≢true h)
+
+-- what is found behind the first of some is found among all
+find_behind : (e : List ℕ × Entry) (es : List (List ℕ × Entry)) (k : List ℕ) (v : Entry)
+    → T (below_all order e.0 es) → find order k es ≡ Some v → find order k (e ∷ es) ≡ Some v
+find_behind e es k v first is = elim (cases_Bool (eq_by_cmp order k e.0)) [
+  | inl tied ↦
+      let equal = is_equal (order k e.0) tied in
+      absurd (let nothing : None ≡ Some v =
+      sym (find_below e.0 es first) ∙ find_tied order nat_list_cmp_total k e.0 equal es ∙ is in cc)
+  | inr apart ↦ cond-false (eq_by_cmp order k e.0) (Some e.1) (find order k es) apart ∙ is
+]
+
+-- no entries of a class
+count_none : (class : ℕ) (es : List (List ℕ × Entry)) → T (is_sorted order es)
+    → ((k : List ℕ) (v : Entry) → find order k es ≡ Some v → v.place.class ≡ class → ⊥)
+    → of_class class es ≡ 0
+count_none class [] h none = refl
+count_none class (e ∷ es) h none =
+    let parts = both_parts (below_all order e.0 es) (is_sorted order es) h in
+    let here : find order e.0 (e ∷ es) ≡ Some e.1 =
+    cond-true (eq_by_cmp order e.0 e.0) (Some e.1) (find order e.0 es)
+    (ap is_eq (tied_itself nat_list_cmp_total e.0)) in
+    let other : one_of (Some e.1) class ≡ 0 = cond-false {A = ℕ} (eqb e.1.place.class class) 1 0
+    (ne_eqb e.1.place.class class (λ is. none e.0 e.1 here is)) in
+    let rest = count_none class es parts.1
+    (λ k v is. none k v (find_behind e es k v parts.0 is)) in
+    omega (arith, count_cons class e es, other, rest)
+
+-- a class of which no key has an entry has none
+pub items_in-none : (entries : Entries) (class : ℕ)
+    → ((key : List ℕ) (entry : Entry) → finite.get entries key ≡ Some entry
+    → entry.place.class ≡ class → ⊥) → items_in entries class ≡ 0
+items_in-none entries class none =
+    count_none class (finite.entries entries) (finite.entries_sorted entries)
+    (λ k v is. none k v (finite.get-entries entries k ∙ is))

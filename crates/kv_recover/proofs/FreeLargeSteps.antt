@@ -16,10 +16,11 @@ use Rattle.kv_model.specs.Reading.{page_of}
 use Rattle.kv_disk.specs.Steps.{OnlyReads}
 use Rattle.kv_recover.specs.Free.{is_entry, free_slots, IsFree, reading_of}
 use Rattle.kv_recover.specs.FreeLarge.{AnyMayBeFreed, AreFreed, HasFreedAny, FreesAnyBelow}
-use Rattle.kv_recover.specs.Free.{HasStacks}
+use Rattle.kv_recover.specs.Free.{HasStacks, AreTaken}
 use Rattle.kv_recover.specs.SoFar.{IsBefore}
 use Rattle.kv_recover.proofs.FreeLemmas.{Puts, puts-with}
-use Rattle.kv_recover.proofs.FreeSteps.{Told, past_end, stacks-next}
+use Rattle.kv_recover.proofs.FreeSteps.{Told, past_end, stacks-next, none-free, free-before}
+use Rattle.kv_recover.proofs.FreeSteps.{before-end}
 use Rattle.kv_recover.proofs.PageLemmas.{free_slots-kept, free_slots-freed}
 use Rattle.kv_recover.proofs.LargeLemmas.{slot_at-large}
 use Rattle.kv_slot.specs.Views.{read_front}
@@ -221,3 +222,31 @@ module _ {D : Type 0} (d : Ghosts D) (entries : Entries) (first : Image) (ends :
         (has.list tells));
     stand = has.stand;
   }
+
+-- a class without a free slot is freed as it is
+pub any-none : {D : Type 0} (d : Ghosts D) (entries : Entries) (first : Image) (ends : ℕ → ℕ)
+    (floor class end : ℕ) (disk : D) (stack : Tail) → ends class ≡ end
+    → (IsTrue d.tells → AreTaken entries first ends class)
+    → HasFreedAny d entries first ends floor class 0 disk stack
+    → HasFreedAny d entries first ends floor class end disk stack
+any-none d entries first ends floor class end disk stack end_is taken has = record {
+  seen = λ tells.
+      let freed = has.seen tells in
+      record {
+        freed = freed.freed;
+        kept = freed.kept;
+        large_freed = λ c s low high before free. freed.large_freed c s low high
+            (free-before entries first ends class end (taken tells) c s before free) free;
+        large_kept = λ c s low high not_freed. freed.large_kept c s low high (λ before free.
+            not_freed (before-end entries first ends class end (taken tells) c s before) free);
+        others = freed.others;
+        past = freed.past;
+      };
+  crash = λ image left. any-later entries first ends floor class 0 class end image
+      (λ c s before. elim before [ inl less ↦ inl less | inr at ↦ absurd (omega (arith, at.1)) ])
+      (has.crash image left);
+  list = λ tells. subst (StandsFor stack) (sym (none-free entries (reading_of first) class end end
+      (omega arith) (subst (λ e. (slot : ℕ) → IsFree entries (reading_of first) e class slot → ⊥)
+      end_is (taken tells)))) (has.list tells);
+  stand = has.stand;
+}

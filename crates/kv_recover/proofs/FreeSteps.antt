@@ -1,7 +1,7 @@
 -- A page is read, and written with its free slots freed, on a disk.
 use Rattle.std.proofs.Common.{◌≡◌, ◌⊎◌, inl, inr, ℕ, zero, suc, ◌+◌, ◌*◌, ◌<◌, ◌≤◌, List, [], ◌∷◌}
 use Rattle.std.proofs.Common.{◌++◌, Result, Ok, Err, OnOk, Some, length, slice_get, length-append}
-use Rattle.std.proofs.lemmas.Bool.{cases_eq}
+use Rattle.std.proofs.lemmas.Bool.{cases_eq, cases_Bool}
 use Rattle.kv_recover.specs.SoFar.{IsBefore}
 use Rattle.std.proofs.Common.{refl, sym, ap, ◌∙◌, subst, arith, IsTrue}
 use Rattle.kv_base.specs.Image.{Image, with_page}
@@ -17,8 +17,9 @@ use Rattle.kv_model.specs.Reading.{Reading, page_of}
 use Rattle.kv_recover.specs.Pass.{bytes_in}
 use Rattle.kv_disk.specs.Steps.{OnlyReads}
 use Rattle.kv_recover.specs.Free.{free_slots, FreesPage, reading_of, MayBeFreed, IsFreed, HasFreed}
-use Rattle.kv_recover.specs.Free.{IsFree, HasFreedBelow, HasStacks}
+use Rattle.kv_recover.specs.Free.{is_entry, IsFree, HasFreedBelow, HasStacks, AreTaken}
 use Rattle.kv_recover.proofs.FilteredLemmas.{get-within}
+use Rattle.kv_recover.proofs.PageLemmas.{free_slots-kept}
 use Rattle.kv_recover.proofs.FreeLemmas.{Puts, page_reads, may-write, freed-write, puts-same, puts-with, may-up, may-later}
 
 -- what follows of an Ok call, given what the call ensures where the disk tells
@@ -227,4 +228,60 @@ stacks-start entries first ends stacks one empty = record {
   count = one;
   none = empty;
   each = λ c stack low is. absurd (let within = get-within stacks stack c is in omega arith);
+}
+
+-- where no slot below the end is free the list has none
+pub none-free : (entries : Entries) (reading : Reading) (class end n : ℕ) → n ≤ end
+    → ((slot : ℕ) → IsFree entries reading end class slot → ⊥)
+    → free_slots entries reading class n ≡ free_slots entries reading class 0
+none-free entries reading class end zero within taken = refl
+none-free entries reading class end (suc n) within taken =
+    let next : suc n ≡ n + 1 = omega arith in
+    elim (cases_Bool (is_entry entries class n (reading class n))) [
+      | inl entry ↦ ap (free_slots entries reading class) next
+          ∙ free_slots-kept entries reading class n entry
+          ∙ none-free entries reading class end n (omega arith) taken
+      | inr none ↦ absurd (taken n (record { below = omega arith; none = none }))
+    ]
+
+-- what is before the class's end is free below its first slot, where none of its own is free
+module _ (entries : Entries) (first : Image) (ends : ℕ → ℕ) (class end : ℕ)
+    (taken : AreTaken entries first ends class) where
+  pub free-before : (c s : ℕ) → IsBefore c s class end
+      → IsFree entries (reading_of first) (ends c) c s → IsBefore c s class 0
+  free-before c s before free = elim before [
+    | inl less ↦ inl less
+    | inr at ↦
+        absurd (taken s (subst (λ x. IsFree entries (reading_of first) (ends x) x s) at.0 free))
+  ]
+
+  pub before-end : (c s : ℕ) → IsBefore c s class 0 → IsBefore c s class end
+  before-end c s before = elim before [
+    | inl less ↦ inl less
+    | inr at ↦ absurd (omega (arith, at.1))
+  ]
+
+-- a class without a free slot is freed as it is
+pub freed-none : {D : Type 0} (d : Ghosts D) (entries : Entries) (first : Image) (ends : ℕ → ℕ)
+    (floor class end : ℕ) (disk : D) (stack : Tail) → ends class ≡ end
+    → (IsTrue d.tells → AreTaken entries first ends class)
+    → HasFreed d entries first ends floor class 0 disk stack
+    → HasFreed d entries first ends floor class end disk stack
+freed-none d entries first ends floor class end disk stack end_is taken has = record {
+  seen = λ tells.
+      let freed = has.seen tells in
+      record {
+        freed = λ c s low high before free. freed.freed c s low high
+            (free-before entries first ends class end (taken tells) c s before free) free;
+        kept = λ c s low high not_freed. freed.kept c s low high (λ before free. not_freed
+            (before-end entries first ends class end (taken tells) c s before) free);
+        others = freed.others;
+        past = freed.past;
+      };
+  crash = λ image left. may-later entries first ends floor class 0 class end image
+      (λ c s before. elim before [ inl less ↦ inl less | inr at ↦ absurd (omega (arith, at.1)) ])
+      (has.crash image left);
+  list = λ tells. subst (StandsFor stack) (sym (none-free entries (reading_of first) class end end
+      (omega arith) (subst (λ e. (slot : ℕ) → IsFree entries (reading_of first) e class slot → ⊥)
+      end_is (taken tells)))) (has.list tells);
 }

@@ -29,3 +29,4 @@ pub mod WritesLemmas
 pub mod KeptLemmas
 pub mod JoinLemmas
 pub mod SurveyLemmas
+pub mod TakenLemmas

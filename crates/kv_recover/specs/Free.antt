@@ -1,6 +1,6 @@
 -- The slots that are freed while a disk is opened, and what they are written with.
 use Rattle.std.specs.Prelude.{◌≡◌, ◌⊎◌, ℕ, ◌<◌, ◌≤◌, ◌^◌, List, Option, None, Some, IfSome, IsTrue}
-use Rattle.std.specs.Prelude.{[], Bool, false, not, ◌==◌, ◌&&◌, length, slice_get}
+use Rattle.std.specs.Prelude.{[], Bool, false, not, ◌==◌, ◌&&◌, length, slice_get, slice_index}
 use Rattle.std.specs.List.{filter, range_with_len}
 use Rattle.std.specs.FinMap as finite
 use Rattle.kv_base.specs.Image.{Image}
@@ -119,3 +119,14 @@ pub record FreesBelow {D : Type 0} (d : Ghosts D) (entries : Entries) (first : I
     (ends : ℕ → ℕ) (floor class : ℕ) (disk : D) (stacks : List Tail) : Type 0 where
   pub freed : HasFreedBelow d entries first ends floor class disk
   pub stacks_are : IsTrue d.tells → HasStacks entries first ends class stacks
+
+-- below the class's end no slot is free
+abbrev pub AreTaken : Entries → Image → (ℕ → ℕ) → ℕ → Type 0
+AreTaken entries first ends class =
+    (slot : ℕ) → IsFree entries (reading_of first) (ends class) class slot → ⊥
+
+-- a class that has as many entries as slots below its end has no free one
+abbrev pub AreFullTaken : Entries → Image → (ℕ → ℕ) → List ℕ → Type 0
+AreFullTaken entries first ends counts =
+    (class : ℕ) → class < 12 → slice_index counts class ≡ ends class
+    → AreTaken entries first ends class

@@ -13,7 +13,7 @@ ghost use Rattle.kv_slot.specs.Overwrite.{overwritten};
 ghost use Rattle.kv_slot.specs.Views.{what_stands};
 ghost use Rattle.kv_recover.specs.Free.{is_entry, free_slots, IsFreedSlot, FreesPage};
 ghost use Rattle.kv_recover.specs.Free.{MayBeFreed, HasFreed, HasFreedBelow};
-ghost use Rattle.kv_recover.specs.Free.{reading_of, FreesBelow};
+ghost use Rattle.kv_recover.specs.Free.{reading_of, FreesBelow, AreTaken, AreFullTaken};
 ghost use Rattle.kv_recover.specs.Pass.{bytes_in};
 
 use crate::read::read_page;
@@ -146,12 +146,14 @@ fn pages_below(class: u8, end: u32) -> u32
     if end == 0 { 0 } else { (end - 1) / count + 1 }
 }
 
-/// Frees the slots of this class, 1 to 7, that are below the end and no entry's, in order.
+/// Frees the slots of this class, 1 to 7, that are below the end and no entry's, in order. A class with
+/// as many entries as slots isn't read again.
 fn free_class<D: Disk, I: Index>(
     disk: &mut D,
     index: &I,
     class: u8,
     end: u32,
+    count: u32,
     floor: u64,
     stack: &mut Stacks,
 ) -> Result<(), Failed>
@@ -159,6 +161,7 @@ fn free_class<D: Disk, I: Index>(
     requires end { end ≤ 2 ^ 24 }
     requires none { stack.old.count ≡ 0 }
     ensures done { OnOk result ((first : Image) (ends : ℕ → ℕ) → ends class ≡ end
+        → (IsTrue D.tells → count ≡ end → AreTaken (I.entries index.now) first ends class)
         → HasFreed ⟦<D as Disk>⟧ (I.entries index.now) first ends floor class 0 disk.old stack.old
         → HasFreed ⟦<D as Disk>⟧ (I.entries index.now) first ends floor class end disk.new
         stack.new) }
@@ -168,6 +171,9 @@ fn free_class<D: Disk, I: Index>(
         (MayBeFreed (I.entries index.now) first ends floor class end) }
     ensures counted { Counted (D.faults disk.old) (D.faults disk.new) result }
 {
+    if count == end {
+        return Ok(());
+    }
     for number in 0..pages_below(class, end) {
         free_page(disk, index, class, number, end, floor, stack)?;
     }
@@ -180,11 +186,13 @@ fn free_next<D: Disk, I: Index>(
     index: &I,
     class: u8,
     end: u32,
+    count: u32,
     floor: u64,
 ) -> Result<Stacks, Failed>
     requires class { (1 ≤ class) × (class ≤ 7) }
     requires end { end ≤ 2 ^ 24 }
     ensures done { IfOk result (λ stack. (first : Image) (ends : ℕ → ℕ) → ends class ≡ end
+        → (IsTrue D.tells → count ≡ end → AreTaken (I.entries index.now) first ends class)
         → HasFreedBelow ⟦<D as Disk>⟧ (I.entries index.now) first ends floor class disk.old
         → HasFreedBelow ⟦<D as Disk>⟧ (I.entries index.now) first ends floor (class + 1) disk.new
         × (IsTrue D.tells → StandsFor stack (free_slots (I.entries index.now) (reading_of first)
@@ -196,7 +204,7 @@ fn free_next<D: Disk, I: Index>(
     ensures counted { Counted (D.faults disk.old) (D.faults disk.new) result }
 {
     let mut stack = Stacks::new();
-    free_class(disk, index, class, end, floor, &mut stack)?;
+    free_class(disk, index, class, end, count, floor, &mut stack)?;
     Ok(stack)
 }
 
@@ -206,6 +214,7 @@ pub fn free_small<D: Disk, I: Index>(
     disk: &mut D,
     index: &I,
     ends: &[u32; 12],
+    counts: &[u32; 12],
     floor: u64,
     stacks: &mut ReservedList<Stacks>,
 ) -> Result<(), Failed>
@@ -215,11 +224,15 @@ pub fn free_small<D: Disk, I: Index>(
         → StandsFor stack [] }
     requires room { 7 ≤ stacks.old.spare }
     ensures done { OnOk result ((first : Image)
+        → (IsTrue D.tells → AreFullTaken (I.entries index.now) first (λ c. slice_index ends.now c)
+        counts.now)
         → HasFreedBelow ⟦<D as Disk>⟧ (I.entries index.now) first (λ c. slice_index ends.now c)
         floor 1 disk.old
         → FreesBelow ⟦<D as Disk>⟧ (I.entries index.now) first (λ c. slice_index ends.now c)
         floor 8 disk.new stacks.new.items) }
     ensures any_moment { (first : Image)
+        → (IsTrue D.tells → AreFullTaken (I.entries index.now) first (λ c. slice_index ends.now c)
+        counts.now)
         → HasFreedBelow ⟦<D as Disk>⟧ (I.entries index.now) first (λ c. slice_index ends.now c)
         floor 1 disk.old
         → LeavesOnly (D.calls disk.old) (D.calls disk.new) (D.leaves disk.old) (D.leaves disk.new)
@@ -230,7 +243,8 @@ pub fn free_small<D: Disk, I: Index>(
     ensures counted { Counted (D.faults disk.old) (D.faults disk.new) result }
 {
     for class in 1..8 {
-        let stack = free_next(disk, index, class, ends[class as usize], floor)?;
+        let at = class as usize;
+        let stack = free_next(disk, index, class, ends[at], counts[at], floor)?;
         stacks.append(stack).unwrap();
     }
     Ok(())

@@ -5,6 +5,7 @@ ghost use Rattle.kv_base.specs.Fault.{Counted};
 ghost use Rattle.kv_base.specs.Image.{Image};
 ghost use Rattle.kv_free.specs.FreeList.{StandsFor, link_of};
 ghost use Rattle.kv_model.specs.SlotBytes.{tombstone_bytes};
+ghost use Rattle.kv_recover.specs.Free.{AreTaken, AreFullTaken};
 ghost use Rattle.kv_recover.specs.FreeLarge.{AnyMayBeFreed, HasFreedAny, FreesAnyBelow};
 
 use crate::free::is_entry;
@@ -71,12 +72,14 @@ fn free_large_at<D: Disk, I: Index>(
     disk.write(place.class, first, &freed)
 }
 
-/// Frees the slots of this class, 8 to 11, that are below the end and no entry's, in order.
+/// Frees the slots of this class, 8 to 11, that are below the end and no entry's, in order. A class with
+/// as many entries as slots isn't read again.
 fn free_large_class<D: Disk, I: Index>(
     disk: &mut D,
     index: &I,
     class: u8,
     end: u32,
+    count: u32,
     floor: u64,
     stack: &mut Stacks,
 ) -> Result<(), Failed>
@@ -84,6 +87,7 @@ fn free_large_class<D: Disk, I: Index>(
     requires end { end ≤ 2 ^ 24 }
     requires none { stack.old.count ≡ 0 }
     ensures done { OnOk result ((first : Image) (ends : ℕ → ℕ) → ends class ≡ end
+        → (IsTrue D.tells → count ≡ end → AreTaken (I.entries index.now) first ends class)
         → HasFreedAny ⟦<D as Disk>⟧ (I.entries index.now) first ends floor class 0 disk.old
         stack.old
         → HasFreedAny ⟦<D as Disk>⟧ (I.entries index.now) first ends floor class end disk.new
@@ -95,6 +99,9 @@ fn free_large_class<D: Disk, I: Index>(
         (AnyMayBeFreed (I.entries index.now) first ends floor class end) }
     ensures counted { Counted (D.faults disk.old) (D.faults disk.new) result }
 {
+    if count == end {
+        return Ok(());
+    }
     for slot in 0..end {
         free_large_at(disk, index, Place { class, slot }, floor, stack)?;
     }
@@ -107,6 +114,7 @@ fn free_large_next<D: Disk, I: Index>(
     index: &I,
     class: u8,
     end: u32,
+    count: u32,
     floor: u64,
     stacks: &mut ReservedList<Stacks>,
 ) -> Result<(), Failed>
@@ -114,6 +122,7 @@ fn free_large_next<D: Disk, I: Index>(
     requires end { end ≤ 2 ^ 24 }
     requires room { 0 < stacks.old.spare }
     ensures done { OnOk result ((first : Image) (ends : ℕ → ℕ) → ends class ≡ end
+        → (IsTrue D.tells → count ≡ end → AreTaken (I.entries index.now) first ends class)
         → FreesAnyBelow ⟦<D as Disk>⟧ (I.entries index.now) first ends floor class disk.old
         stacks.old.items
         → FreesAnyBelow ⟦<D as Disk>⟧ (I.entries index.now) first ends floor (class + 1) disk.new
@@ -128,7 +137,7 @@ fn free_large_next<D: Disk, I: Index>(
     ensures count { OnOk result (length stacks.new.items ≡ length stacks.old.items + 1) }
 {
     let mut stack = Stacks::new();
-    free_large_class(disk, index, class, end, floor, &mut stack)?;
+    free_large_class(disk, index, class, end, count, floor, &mut stack)?;
     stacks.append(stack).unwrap();
     Ok(())
 }
@@ -139,6 +148,7 @@ pub fn free_large<D: Disk, I: Index>(
     disk: &mut D,
     index: &I,
     ends: &[u32; 12],
+    counts: &[u32; 12],
     floor: u64,
     stacks: &mut ReservedList<Stacks>,
 ) -> Result<(), Failed>
@@ -146,11 +156,15 @@ pub fn free_large<D: Disk, I: Index>(
     requires room { 4 ≤ stacks.old.spare }
     requires eight { length stacks.old.items ≡ 8 }
     ensures done { OnOk result ((first : Image)
+        → (IsTrue D.tells → AreFullTaken (I.entries index.now) first (λ c. slice_index ends.now c)
+        counts.now)
         → FreesAnyBelow ⟦<D as Disk>⟧ (I.entries index.now) first (λ c. slice_index ends.now c)
         floor 8 disk.old stacks.old.items
         → FreesAnyBelow ⟦<D as Disk>⟧ (I.entries index.now) first (λ c. slice_index ends.now c)
         floor 12 disk.new stacks.new.items) }
     ensures any_moment { (first : Image)
+        → (IsTrue D.tells → AreFullTaken (I.entries index.now) first (λ c. slice_index ends.now c)
+        counts.now)
         → FreesAnyBelow ⟦<D as Disk>⟧ (I.entries index.now) first (λ c. slice_index ends.now c)
         floor 8 disk.old stacks.old.items
         → LeavesOnly (D.calls disk.old) (D.calls disk.new) (D.leaves disk.old) (D.leaves disk.new)
@@ -159,7 +173,8 @@ pub fn free_large<D: Disk, I: Index>(
     ensures counted { Counted (D.faults disk.old) (D.faults disk.new) result }
 {
     for class in 8..12 {
-        free_large_next(disk, index, class, ends[class as usize], floor, stacks)?;
+        let at = class as usize;
+        free_large_next(disk, index, class, ends[at], counts[at], floor, stacks)?;
     }
     Ok(())
 }

@@ -87,22 +87,24 @@ pub fn find_all<D: Disk, I: Index>(
 pub fn free_all<D: Disk, I: Index>(
     alloc: Global,
     disk: &mut D,
-    index: &I,
+    items: &Items<I>,
     ends: &[u32; 12],
     floor: u64,
 ) -> Result<ReservedList<Stacks>, OpenFault>
     requires ends { (class : ℕ) → slice_index ends.now class ≤ 2 ^ 24 }
+    requires placed { ArePlaced (I.entries items.now.index) floor (λ c. slice_index ends.now c) }
+    requires counted { HasCounts (I.entries items.now.index) items.now.counts }
     ensures done { IfOk result (λ stacks. (first : Image)
-        → HasFreedBelow ⟦<D as Disk>⟧ (I.entries index.now) first (λ c. slice_index ends.now c)
-        floor 1 disk.old → (IsTrue D.tells → EntriesStand (I.entries index.now) (reading_of first))
-        → FreesAnyBelow ⟦<D as Disk>⟧ (I.entries index.now) first (λ c. slice_index ends.now c)
+        → HasFreedBelow ⟦<D as Disk>⟧ (I.entries items.now.index) first (λ c. slice_index ends.now c)
+        floor 1 disk.old → (IsTrue D.tells → EntriesStand (I.entries items.now.index) (reading_of first))
+        → FreesAnyBelow ⟦<D as Disk>⟧ (I.entries items.now.index) first (λ c. slice_index ends.now c)
         floor 12 disk.new stacks.items) }
     ensures durable { OnOk result (Only (D.seen disk.new) (D.leaves disk.new (D.calls disk.new))) }
     ensures any_moment { (first : Image)
-        → HasFreedBelow ⟦<D as Disk>⟧ (I.entries index.now) first (λ c. slice_index ends.now c)
-        floor 1 disk.old → (IsTrue D.tells → EntriesStand (I.entries index.now) (reading_of first))
+        → HasFreedBelow ⟦<D as Disk>⟧ (I.entries items.now.index) first (λ c. slice_index ends.now c)
+        floor 1 disk.old → (IsTrue D.tells → EntriesStand (I.entries items.now.index) (reading_of first))
         → LeavesOnly (D.calls disk.old) (D.calls disk.new) (D.leaves disk.old) (D.leaves disk.new)
-        (AnyMayBeFreed (I.entries index.now) first (λ c. slice_index ends.now c) floor 12 0) }
+        (AnyMayBeFreed (I.entries items.now.index) first (λ c. slice_index ends.now c) floor 12 0) }
     ensures range { floor < 2 ^ 64 }
     ensures count { IfOk result (λ stacks. length stacks.items ≡ 12) }
     ensures cause { IfErr result (HasReadCause ⊥) }
@@ -110,8 +112,9 @@ pub fn free_all<D: Disk, I: Index>(
 {
     let mut stacks = ReservedList::with_room(alloc, 12)?;
     stacks.append(Stacks::new()).unwrap();
-    free_small(disk, index, ends, floor, &mut stacks)?;
-    free_large(disk, index, ends, floor, &mut stacks)?;
+    let Items { index, counts } = items;
+    free_small(disk, index, ends, counts, floor, &mut stacks)?;
+    free_large(disk, index, ends, counts, floor, &mut stacks)?;
     disk.sync()?;
     Ok(stacks)
 }
@@ -177,7 +180,7 @@ pub fn open_slabs<D: Disk, I: Index>(
     if floor >= LAST_STAMP {
         return Err(OpenFault::StampsSpent { stamp: floor });
     }
-    let stacks = free_all(alloc, disk, &items.index, &ends, floor)?;
+    let stacks = free_all(alloc, disk, items, &ends, floor)?;
     if !are_full(stacks.as_slice(), &ends, &items.counts) {
         return Err(OpenFault::NoMemory);
     }

@@ -8,6 +8,8 @@ use kv_tree::TreeIndex;
 use std::alloc::Global;
 use std::test::*;
 
+mod tables;
+
 // A disk of worker 0 of 1. Slots of class 1: two items of one key, one of another, a tombstone, one
 // that was never used, and bytes that no store writes.
 fn used_disk(alloc: Global) -> Result<PlainDisk, OpenFault> {

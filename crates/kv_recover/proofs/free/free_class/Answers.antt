@@ -4,7 +4,22 @@ use Rattle.kv_base.proofs.CrashLemmas.{started, joins, weaker}
 use Rattle.kv_model.specs.Layout.{slots_in_page}
 use Rattle.kv_recover.specs.Free.{HasFreed}
 use Rattle.kv_recover.proofs.FreeLemmas.{may-later}
+use Rattle.kv_recover.proofs.FreeSteps.{freed-none}
 use Rattle.kv_recover.proofs.free.free_class.Goals as goal
+
+pub returns-then-count-end-clause-done : goal.returns-then-count-end-clause-done
+returns-then-count-end-clause-done g c = λ first ends end_is taken has.
+    freed-none g.D.Disk (g.I.Index.entries c.args.index.now) first ends c.args.floor c.args.class
+    c.args.end c.args.disk.now c.args.stack.now end_is
+    (λ tells. taken tells c.if-count-end.true) has
+
+pub returns-then-count-end-clause-any_moment : goal.returns-then-count-end-clause-any_moment
+returns-then-count-end-clause-any_moment g c = λ first ends end_is has.
+    started _ _ _ (λ image left. may-later _ first ends c.args.floor c.args.class 0 c.args.class
+    c.args.end image (λ k s before. elim before [
+      | inl below ↦ inl below
+      | inr at ↦ inr (at.0, omega (arith, at.1))
+    ]) (has.crash image left))
 
 pub loop-number-init : goal.loop-number-init
 loop-number-init g c =
@@ -70,7 +85,7 @@ loop-number-preserved g c =
     }
 
 pub returns-clause-done : goal.returns-clause-done
-returns-clause-done g c = λ first ends end_is has.
+returns-clause-done g c = λ first ends end_is taken has.
     let all = c.pages_below-number-end.ensures.all in
     let number : c.loop-number.number ≡ c.pages_below-number-end.result = omega arith in
     let slots = ap (λ n. n * slots_in_page c.args.class) number in

@@ -20,8 +20,8 @@ returns-clause-any_moment g c = λ first ends end_is below.
     end_is)
 
 pub returns-clause-done : goal.returns-clause-done
-returns-clause-done g c = λ first ends end_is below.
-    let has = c.in_ok-free_class.ensures.done first ends end_is
+returns-clause-done g c = λ first ends end_is taken below.
+    let has = c.in_ok-free_class.ensures.done first ends end_is taken
     (freed-start g.D.Disk _ first ends c.args.floor c.args.class c.args.disk.now _ c.new-stack.ensures
     below) in (
       freed-end g.D.Disk _ first ends c.args.floor c.args.class c.args.end c.free_class.new.disk _

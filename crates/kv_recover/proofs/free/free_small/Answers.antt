@@ -16,20 +16,20 @@ loop-class-init g c = record {
   room = refl;
   count = c.requires.one;
   calm = refl;
-  done = λ first below. record {
+  done = λ first taken below. record {
     freed = below;
     stacks_are = λ tells. stacks-start (g.I.Index.entries c.args.index.now) first
         (λ x. get_or c.args.ends.now x 0) c.args.stacks.now.items c.requires.one c.requires.empty;
   };
-  any_moment = λ first below. started _ _ _ (λ image left. may-later
+  any_moment = λ first taken below. started _ _ _ (λ image left. may-later
       (g.I.Index.entries c.args.index.now) first (λ x. get_or c.args.ends.now x 0) c.args.floor 1 0
       8 0 image (λ k s before. inl (omega (arith, before))) (below.crash image left));
 }
 
 pub returns-in_err-stack-clause-any_moment : goal.returns-in_err-stack-clause-any_moment
-returns-in_err-stack-clause-any_moment g c = λ first below.
-    let so_far = c.loop-class.invariant.done first below in
-    joins _ _ _ _ _ _ _ (c.loop-class.invariant.any_moment first below)
+returns-in_err-stack-clause-any_moment g c = λ first taken below.
+    let so_far = c.loop-class.invariant.done first taken below in
+    joins _ _ _ _ _ _ _ (c.loop-class.invariant.any_moment first taken below)
     (weaker _ _ _ _ _ _ (c.free_next.ensures.any_moment first (λ x. get_or c.args.ends.now x 0)
     refl so_far.freed)
     (λ image. may-later (g.I.Index.entries c.args.index.now) first
@@ -53,10 +53,10 @@ loop-class-preserved g c =
             before,
           );
       calm = c.in_ok-stack.ensures.counted ∙ c.loop-class.invariant.calm;
-      done = λ first below.
-          let so_far = c.loop-class.invariant.done first below in
+      done = λ first taken below.
+          let so_far = c.loop-class.invariant.done first taken below in
           let next = c.in_ok-stack.ensures.done first (λ x. get_or c.args.ends.now x 0) refl
-          so_far.freed in
+          (λ tells. taken tells c.loop-class.class (omega arith)) so_far.freed in
           record {
             freed = next.0;
             stacks_are = λ tells. subst (HasStacks (g.I.Index.entries c.args.index.now) first
@@ -65,9 +65,9 @@ loop-class-preserved g c =
                 (λ x. get_or c.args.ends.now x 0) c.loop-class.class c.loop-class.stacks.items
                 c.in_ok-stack.stack (so_far.stacks_are tells) (next.1 tells));
           };
-      any_moment = λ first below.
-          let so_far = c.loop-class.invariant.done first below in
-          joins _ _ _ _ _ _ _ (c.loop-class.invariant.any_moment first below)
+      any_moment = λ first taken below.
+          let so_far = c.loop-class.invariant.done first taken below in
+          joins _ _ _ _ _ _ _ (c.loop-class.invariant.any_moment first taken below)
           (weaker _ _ _ _ _ _ (c.free_next.ensures.any_moment first
           (λ x. get_or c.args.ends.now x 0) refl so_far.freed)
           (λ image. may-later (g.I.Index.entries c.args.index.now) first
@@ -76,8 +76,8 @@ loop-class-preserved g c =
     }
 
 pub returns-clause-done : goal.returns-clause-done
-returns-clause-done g c = λ first below.
+returns-clause-done g c = λ first taken below.
     let last : c.loop-class.class ≡ 8 = omega arith in
     subst (λ n. FreesBelow g.D.Disk (g.I.Index.entries c.args.index.now) first
     (λ x. get_or c.args.ends.now x 0) c.args.floor n c.loop-class.disk c.loop-class.stacks.items)
-    last (c.loop-class.invariant.done first below)
+    last (c.loop-class.invariant.done first taken below)

@@ -1,8 +1,8 @@
 -- The classes so far are freed.
-use Rattle.std.proofs.Common.{length, ◌≡◌, ◌+◌, length, get_or}
+use Rattle.std.proofs.Common.{length, ◌≡◌, ◌+◌, IsTrue, length, get_or}
 use Rattle.kv_base.specs.Image.{Image}
 use Rattle.kv_base.specs.Crash.{LeavesOnly}
-use Rattle.kv_recover.specs.Free.{MayBeFreed, HasFreedBelow, FreesBelow}
+use Rattle.kv_recover.specs.Free.{MayBeFreed, HasFreedBelow, FreesBelow, AreFullTaken}
 use Rattle.kv_recover.proofs.free.free_small.Given as goal
 
 abbrev pub invariant-loop-class : goal.invariant-loop-class
@@ -11,11 +11,15 @@ invariant-loop-class g l = record {
   count : length l.stacks.items ≡ l.class;
   calm : g.D.Disk.faults l.disk ≡ g.D.Disk.faults l.initial.disk;
   done : (first : Image)
+      → (IsTrue g.D.Disk.tells → AreFullTaken (g.I.Index.entries l.index) first
+      (λ c. get_or l.ends c 0) l.counts)
       → HasFreedBelow g.D.Disk (g.I.Index.entries l.index) first (λ c. get_or l.ends c 0) l.floor 1
       l.initial.disk
       → FreesBelow g.D.Disk (g.I.Index.entries l.index) first (λ c. get_or l.ends c 0) l.floor
       l.class l.disk l.stacks.items;
   any_moment : (first : Image)
+      → (IsTrue g.D.Disk.tells → AreFullTaken (g.I.Index.entries l.index) first
+      (λ c. get_or l.ends c 0) l.counts)
       → HasFreedBelow g.D.Disk (g.I.Index.entries l.index) first (λ c. get_or l.ends c 0) l.floor 1
       l.initial.disk
       → LeavesOnly (g.D.Disk.calls l.initial.disk) (g.D.Disk.calls l.disk)

@@ -28,10 +28,10 @@ returns-clause-any_moment g c = λ first ends end_is below.
     c.args.end end_is)
 
 pub returns-clause-done : goal.returns-clause-done
-returns-clause-done g c = λ first ends end_is below.
+returns-clause-done g c = λ first ends end_is taken below.
     let ok = c.append.ensures.room c.requires.room in
     let items = of_ok c.append.result _ ok c.append.ensures.ok in
-    let has = c.in_ok-free_large_class.ensures.done first ends end_is
+    let has = c.in_ok-free_large_class.ensures.done first ends end_is taken
     (any-start g.D.Disk _ first ends c.args.floor c.args.class c.args.disk.now _ _
     c.new-stack.ensures below) in
     subst (FreesAnyBelow g.D.Disk (g.I.Index.entries c.args.index.now) first ends c.args.floor

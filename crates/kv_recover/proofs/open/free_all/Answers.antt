@@ -1,8 +1,10 @@
 -- The small classes are freed, then the large ones, and then all is synced.
-use Rattle.std.proofs.Common.{[], ◌∷◌, ◌++◌, Some, slice_get, Result, Ok, Err, OnOk, IsOk, arith, ◌≡◌, get_or, sym, ap, ◌∙◌, subst}
+use Rattle.std.proofs.Common.{[], ◌∷◌, ◌++◌, Some, slice_get, Result, Ok, Err, OnOk, IsOk, IsTrue, arith, ◌≡◌, get_or, sym, ap, ◌∙◌, subst}
 use Rattle.kv_free.specs.FreeList.{StandsFor}
 use Rattle.kv_base.proofs.CrashLemmas.{started, stays, joins, weaker}
 use Rattle.kv_recover.proofs.OpenSteps.{large-start, small-all, none-all, freed-synced}
+use Rattle.kv_recover.specs.Free.{AreFullTaken}
+use Rattle.kv_recover.proofs.TakenLemmas.{full-taken}
 use Rattle.kv_recover.proofs.open.free_all.Goals as goal
 
 -- of an Ok call
@@ -23,53 +25,73 @@ free_small-requires-clause-empty g c = λ stack is.
 
 pub returns-in_err-stacks-clause-any_moment : goal.returns-in_err-stacks-clause-any_moment
 returns-in_err-stacks-clause-any_moment g c = λ first below stand.
-    started _ _ _ (λ image left. none-all (g.I.Index.entries c.args.index.now) first
+    started _ _ _ (λ image left. none-all (g.I.Index.entries c.args.items.now.index) first
     (λ x. get_or c.args.ends.now x 0) c.args.floor image (below.crash image left))
 
 pub returns-in_err-free_small-clause-any_moment : goal.returns-in_err-free_small-clause-any_moment
 returns-in_err-free_small-clause-any_moment g c = λ first below stand.
-    weaker _ _ _ _ _ _ (c.free_small.ensures.any_moment first below)
-    (small-all (g.I.Index.entries c.args.index.now) first (λ x. get_or c.args.ends.now x 0)
+    let taken : IsTrue g.D.Disk.tells → AreFullTaken (g.I.Index.entries c.args.items.now.index)
+    first (λ x. get_or c.args.ends.now x 0) c.args.items.now.counts = λ tells. full-taken (g.I.Index.entries c.args.items.now.index)
+    c.args.items.now.counts c.args.floor (λ x. get_or c.args.ends.now x 0) first
+    c.requires.counted c.requires.placed (stand tells) in
+    weaker _ _ _ _ _ _ (c.free_small.ensures.any_moment first taken below)
+    (small-all (g.I.Index.entries c.args.items.now.index) first (λ x. get_or c.args.ends.now x 0)
     c.args.floor)
 
 pub returns-in_err-free_large-clause-any_moment : goal.returns-in_err-free_large-clause-any_moment
 returns-in_err-free_large-clause-any_moment g c = λ first below stand.
-    joins _ _ _ _ _ _ _ (weaker _ _ _ _ _ _ (c.free_small.ensures.any_moment first below)
-    (small-all (g.I.Index.entries c.args.index.now) first (λ x. get_or c.args.ends.now x 0)
+    let taken : IsTrue g.D.Disk.tells → AreFullTaken (g.I.Index.entries c.args.items.now.index)
+    first (λ x. get_or c.args.ends.now x 0) c.args.items.now.counts = λ tells. full-taken (g.I.Index.entries c.args.items.now.index)
+    c.args.items.now.counts c.args.floor (λ x. get_or c.args.ends.now x 0) first
+    c.requires.counted c.requires.placed (stand tells) in
+    joins _ _ _ _ _ _ _ (weaker _ _ _ _ _ _ (c.free_small.ensures.any_moment first taken below)
+    (small-all (g.I.Index.entries c.args.items.now.index) first (λ x. get_or c.args.ends.now x 0)
     c.args.floor))
-    (c.free_large.ensures.any_moment first (large-start g.D.Disk
-    (g.I.Index.entries c.args.index.now) first (λ x. get_or c.args.ends.now x 0) c.args.floor
+    (c.free_large.ensures.any_moment first taken (large-start g.D.Disk
+    (g.I.Index.entries c.args.items.now.index) first (λ x. get_or c.args.ends.now x 0) c.args.floor
     c.free_small.new.disk c.free_small.new.stacks.items stand
-    (c.in_ok-free_small.ensures.done first below)))
+    (c.in_ok-free_small.ensures.done first taken below)))
 
 pub returns-in_err-sync-clause-any_moment : goal.returns-in_err-sync-clause-any_moment
 returns-in_err-sync-clause-any_moment g c = λ first below stand.
+    let taken : IsTrue g.D.Disk.tells → AreFullTaken (g.I.Index.entries c.args.items.now.index)
+    first (λ x. get_or c.args.ends.now x 0) c.args.items.now.counts = λ tells. full-taken (g.I.Index.entries c.args.items.now.index)
+    c.args.items.now.counts c.args.floor (λ x. get_or c.args.ends.now x 0) first
+    c.requires.counted c.requires.placed (stand tells) in
     stays _ _ _ _ _ _ _
-    (joins _ _ _ _ _ _ _ (weaker _ _ _ _ _ _ (c.free_small.ensures.any_moment first below)
-    (small-all (g.I.Index.entries c.args.index.now) first (λ x. get_or c.args.ends.now x 0)
+    (joins _ _ _ _ _ _ _ (weaker _ _ _ _ _ _ (c.free_small.ensures.any_moment first taken below)
+    (small-all (g.I.Index.entries c.args.items.now.index) first (λ x. get_or c.args.ends.now x 0)
     c.args.floor))
-    (c.free_large.ensures.any_moment first (large-start g.D.Disk
-    (g.I.Index.entries c.args.index.now) first (λ x. get_or c.args.ends.now x 0) c.args.floor
+    (c.free_large.ensures.any_moment first taken (large-start g.D.Disk
+    (g.I.Index.entries c.args.items.now.index) first (λ x. get_or c.args.ends.now x 0) c.args.floor
     c.free_small.new.disk c.free_small.new.stacks.items stand
-    (c.in_ok-free_small.ensures.done first below)))) c.sync.ensures.past c.sync.ensures.crash
+    (c.in_ok-free_small.ensures.done first taken below)))) c.sync.ensures.past c.sync.ensures.crash
 
 pub returns-clause-any_moment : goal.returns-clause-any_moment
 returns-clause-any_moment g c = λ first below stand.
+    let taken : IsTrue g.D.Disk.tells → AreFullTaken (g.I.Index.entries c.args.items.now.index)
+    first (λ x. get_or c.args.ends.now x 0) c.args.items.now.counts = λ tells. full-taken (g.I.Index.entries c.args.items.now.index)
+    c.args.items.now.counts c.args.floor (λ x. get_or c.args.ends.now x 0) first
+    c.requires.counted c.requires.placed (stand tells) in
     stays _ _ _ _ _ _ _
-    (joins _ _ _ _ _ _ _ (weaker _ _ _ _ _ _ (c.free_small.ensures.any_moment first below)
-    (small-all (g.I.Index.entries c.args.index.now) first (λ x. get_or c.args.ends.now x 0)
+    (joins _ _ _ _ _ _ _ (weaker _ _ _ _ _ _ (c.free_small.ensures.any_moment first taken below)
+    (small-all (g.I.Index.entries c.args.items.now.index) first (λ x. get_or c.args.ends.now x 0)
     c.args.floor))
-    (c.free_large.ensures.any_moment first (large-start g.D.Disk
-    (g.I.Index.entries c.args.index.now) first (λ x. get_or c.args.ends.now x 0) c.args.floor
+    (c.free_large.ensures.any_moment first taken (large-start g.D.Disk
+    (g.I.Index.entries c.args.items.now.index) first (λ x. get_or c.args.ends.now x 0) c.args.floor
     c.free_small.new.disk c.free_small.new.stacks.items stand
-    (c.in_ok-free_small.ensures.done first below)))) c.sync.ensures.past c.sync.ensures.crash
+    (c.in_ok-free_small.ensures.done first taken below)))) c.sync.ensures.past c.sync.ensures.crash
 
 pub returns-clause-done : goal.returns-clause-done
 returns-clause-done g c = λ first below stand.
-    freed-synced g.D.Disk (g.I.Index.entries c.args.index.now) first
+    let taken : IsTrue g.D.Disk.tells → AreFullTaken (g.I.Index.entries c.args.items.now.index)
+    first (λ x. get_or c.args.ends.now x 0) c.args.items.now.counts = λ tells. full-taken (g.I.Index.entries c.args.items.now.index)
+    c.args.items.now.counts c.args.floor (λ x. get_or c.args.ends.now x 0) first
+    c.requires.counted c.requires.placed (stand tells) in
+    freed-synced g.D.Disk (g.I.Index.entries c.args.items.now.index) first
     (λ x. get_or c.args.ends.now x 0) c.args.floor c.free_large.new.disk c.sync.new.self
     c.free_large.new.stacks.items c.sync.ensures.seen c.sync.ensures.crash
-    (c.in_ok-free_large.ensures.done first (large-start g.D.Disk
-    (g.I.Index.entries c.args.index.now) first (λ x. get_or c.args.ends.now x 0) c.args.floor
+    (c.in_ok-free_large.ensures.done first taken (large-start g.D.Disk
+    (g.I.Index.entries c.args.items.now.index) first (λ x. get_or c.args.ends.now x 0) c.args.floor
     c.free_small.new.disk c.free_small.new.stacks.items stand
-    (c.in_ok-free_small.ensures.done first below)))
+    (c.in_ok-free_small.ensures.done first taken below)))

@@ -5,6 +5,8 @@ mod batch;
 mod class;
 mod found;
 mod image;
+#[cfg(test)]
+mod image_tests;
 mod item;
 mod lasts;
 mod latest;

@@ -20,3 +20,6 @@ pub mod FailedLemmas
 pub mod RefusalLemmas
 pub mod KeptLemmas
 pub mod PrefixLemmas
+pub mod ListedLemmas
+pub mod PlainLemmas
+pub mod ReaderLemmas

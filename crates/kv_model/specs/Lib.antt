@@ -24,3 +24,4 @@ pub mod Oracle
 pub mod Examples
 pub mod BatchExamples
 pub mod RecoveryExamples
+pub mod Plain

@@ -4,17 +4,24 @@
 mod batch;
 mod class;
 mod found;
+mod image;
+#[cfg(test)]
+mod image_tests;
 mod item;
 mod lasts;
 mod latest;
 mod laws;
 mod lookup;
 mod oracle;
+mod page;
 mod range;
+mod slot;
+mod stored;
 #[cfg(test)]
 mod tests;
 mod write;
 
+pub use image::PlainImage;
 pub use item::{Item, ItemList};
 pub use laws::{
     acknowledged_writes_read_as_all, answers_agree_with_one_map, classes_are_least,
@@ -25,3 +32,4 @@ pub use laws::{
     store_follows_history, told_answers_agree_with_one_map,
 };
 pub use oracle::Oracle;
+pub use stored::Stored;

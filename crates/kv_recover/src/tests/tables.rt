@@ -65,197 +65,196 @@ fn opened(alloc: Global, disk: PlainDisk) -> Result<(PlainDisk, u64), OpenFault>
     }
 }
 
-// What stands in a class, the class less 1, its counts, the floor, the keys, and the slots that
-// opening frees.
-type Row = (
-    &'static str,
-    &'static [Piece],
-    usize,
-    [u32; 8],
-    u64,
-    u32,
-    &'static [Piece],
-);
+// A class less 1, what stands in it, what a survey says, and what stands there once it was opened.
+struct Row {
+    what: &'static str,
+    before: &'static [Piece],
+    class: usize,
+    counts: [u32; 8],
+    floor: u64,
+    keys: u32,
+    after: &'static [Piece],
+}
 
 // Worker 0 of 2, which owns a and c. The counts are end, kept, stale, foreign, tomb, never, torn and
 // bad.
 static ROWS: [Row; 14] = [
-    (
-        "of two copies the later is kept",
-        &[
+    Row {
+        what: "of two copies the later is kept",
+        before: &[
             (1, 0, 0, b"\x05\0\0\0\0\0\0\0\x01\0\x01\0\x01\0\0\0a1"),
             (1, 0, 64, b"\x09\0\0\0\0\0\0\0\x01\0\x01\0\x01\0\0\0a2"),
         ],
-        0,
-        [2, 1, 1, 0, 0, 0, 0, 0],
-        9,
-        1,
-        &[
+        class: 0,
+        counts: [2, 1, 1, 0, 0, 0, 0, 0],
+        floor: 9,
+        keys: 1,
+        after: &[
             (1, 0, 0, b"\x09\0\0\0\0\0\0\0\x02\0\0\0\0\0\0\0\0\0"),
             (1, 0, 64, b"\x09\0\0\0\0\0\0\0\x01\0\x01\0\x01\0\0\0a2"),
         ],
-    ),
-    (
-        "of equal stamps the least place is kept",
-        &[
+    },
+    Row {
+        what: "of equal stamps the least place is kept",
+        before: &[
             (2, 0, 0, b"\x05\0\0\0\0\0\0\0\x01\0\x01\0\x30\0\0\0a1"),
             (1, 0, 64, b"\x05\0\0\0\0\0\0\0\x01\0\x01\0\x01\0\0\0a2"),
             (1, 0, 128, b"\x05\0\0\0\0\0\0\0\x01\0\x01\0\x01\0\0\0a3"),
         ],
-        0,
-        [3, 1, 1, 0, 0, 1, 0, 0],
-        5,
-        1,
-        &[
+        class: 0,
+        counts: [3, 1, 1, 0, 0, 1, 0, 0],
+        floor: 5,
+        keys: 1,
+        after: &[
             (1, 0, 0, b"\x05\0\0\0\0\0\0\0\x02\0\0\0\0\0\0\0\0\0"),
             (1, 0, 64, b"\x05\0\0\0\0\0\0\0\x01\0\x01\0\x01\0\0\0a2"),
             (1, 0, 128, b"\x05\0\0\0\0\0\0\0\x02\0\0\0\0\0\0\0\0\0"),
             (2, 0, 0, b"\x05\0\0\0\0\0\0\0\x02\0\0\0\0\0\0\0\0\0"),
         ],
-    ),
-    (
-        "another worker's key",
-        &[
+    },
+    Row {
+        what: "another worker's key",
+        before: &[
             (1, 0, 0, b"\x07\0\0\0\0\0\0\0\x01\0\x01\0\x01\0\0\0b1"),
             (1, 0, 64, b"\x03\0\0\0\0\0\0\0\x01\0\x01\0\x01\0\0\0c1"),
         ],
-        0,
-        [2, 1, 0, 1, 0, 0, 0, 0],
-        7,
-        1,
-        &[
+        class: 0,
+        counts: [2, 1, 0, 1, 0, 0, 0, 0],
+        floor: 7,
+        keys: 1,
+        after: &[
             (1, 0, 0, b"\x07\0\0\0\0\0\0\0\x02\0\0\0\0\0\0\0\0\0"),
             (1, 0, 64, b"\x03\0\0\0\0\0\0\0\x01\0\x01\0\x01\0\0\0c1"),
         ],
-    ),
-    (
-        "a slot of kind 7",
-        &[(1, 0, 0, b"\x03\0\0\0\0\0\0\0\x07\0\x01\0\x01\0\0\0a1")],
-        0,
-        [1, 0, 0, 0, 0, 0, 0, 1],
-        3,
-        0,
-        &[(1, 0, 0, b"\x03\0\0\0\0\0\0\0\x02\0\0\0\0\0\0\0\0\0")],
-    ),
-    (
-        "a key without a byte",
-        &[(1, 0, 64, b"\x03\0\0\0\0\0\0\0\x01\0\0\0\x01\0\0\0a1")],
-        0,
-        [2, 0, 0, 0, 0, 1, 0, 1],
-        3,
-        0,
-        &[
+    },
+    Row {
+        what: "a slot of kind 7",
+        before: &[(1, 0, 0, b"\x03\0\0\0\0\0\0\0\x07\0\x01\0\x01\0\0\0a1")],
+        class: 0,
+        counts: [1, 0, 0, 0, 0, 0, 0, 1],
+        floor: 3,
+        keys: 0,
+        after: &[(1, 0, 0, b"\x03\0\0\0\0\0\0\0\x02\0\0\0\0\0\0\0\0\0")],
+    },
+    Row {
+        what: "a key without a byte",
+        before: &[(1, 0, 64, b"\x03\0\0\0\0\0\0\0\x01\0\0\0\x01\0\0\0a1")],
+        class: 0,
+        counts: [2, 0, 0, 0, 0, 1, 0, 1],
+        floor: 3,
+        keys: 0,
+        after: &[
             (1, 0, 0, b"\x03\0\0\0\0\0\0\0\x02\0\0\0\0\0\0\0\0\0"),
             (1, 0, 64, b"\x03\0\0\0\0\0\0\0\x02\0\0\0\0\0\0\0\0\0"),
         ],
-    ),
-    (
-        "a key of 256 bytes, in a class whose room has them",
-        &[(4, 0, 0, b"\x03\0\0\0\0\0\0\0\x01\0\0\x01\x01\0\0\0a1")],
-        3,
-        [1, 0, 0, 0, 0, 0, 0, 1],
-        3,
-        0,
-        &[(4, 0, 0, b"\x03\0\0\0\0\0\0\0\x02\0\0\0\0\0\0\0\0\0")],
-    ),
-    (
-        "lengths past the slot: 1 and 48 bytes in a room of 48",
-        &[(1, 0, 0, b"\x03\0\0\0\0\0\0\0\x01\0\x01\0\x30\0\0\0a1")],
-        0,
-        [1, 0, 0, 0, 0, 0, 0, 1],
-        3,
-        0,
-        &[(1, 0, 0, b"\x03\0\0\0\0\0\0\0\x02\0\0\0\0\0\0\0\0\0")],
-    ),
-    (
-        "lengths of a lesser class: 1 and 47 bytes",
-        &[(2, 0, 0, b"\x03\0\0\0\0\0\0\0\x01\0\x01\0\x2f\0\0\0a1")],
-        1,
-        [1, 0, 0, 0, 0, 0, 0, 1],
-        3,
-        0,
-        &[(2, 0, 0, b"\x03\0\0\0\0\0\0\0\x02\0\0\0\0\0\0\0\0\0")],
-    ),
-    (
-        "a tombstone that links past the end, to slot 2^24 - 1",
-        &[(1, 0, 0, b"\x04\0\0\0\0\0\0\0\x02\0\0\0\0\0\0\x01")],
-        0,
-        [1, 0, 0, 0, 1, 0, 0, 0],
-        4,
-        0,
-        &[(1, 0, 0, b"\x04\0\0\0\0\0\0\0\x02\0\0\0\0\0\0\0\0\0")],
-    ),
-    (
-        "a slot whose last byte alone isn't zero",
-        &[(1, 0, 127, b"\x01")],
-        0,
-        [2, 0, 0, 0, 0, 2, 0, 0],
-        0,
-        0,
-        &[
+    },
+    Row {
+        what: "a key of 256 bytes, in a class whose room has them",
+        before: &[(4, 0, 0, b"\x03\0\0\0\0\0\0\0\x01\0\0\x01\x01\0\0\0a1")],
+        class: 3,
+        counts: [1, 0, 0, 0, 0, 0, 0, 1],
+        floor: 3,
+        keys: 0,
+        after: &[(4, 0, 0, b"\x03\0\0\0\0\0\0\0\x02\0\0\0\0\0\0\0\0\0")],
+    },
+    Row {
+        what: "lengths past the slot: 1 and 48 bytes in a room of 48",
+        before: &[(1, 0, 0, b"\x03\0\0\0\0\0\0\0\x01\0\x01\0\x30\0\0\0a1")],
+        class: 0,
+        counts: [1, 0, 0, 0, 0, 0, 0, 1],
+        floor: 3,
+        keys: 0,
+        after: &[(1, 0, 0, b"\x03\0\0\0\0\0\0\0\x02\0\0\0\0\0\0\0\0\0")],
+    },
+    Row {
+        what: "lengths of a lesser class: 1 and 47 bytes",
+        before: &[(2, 0, 0, b"\x03\0\0\0\0\0\0\0\x01\0\x01\0\x2f\0\0\0a1")],
+        class: 1,
+        counts: [1, 0, 0, 0, 0, 0, 0, 1],
+        floor: 3,
+        keys: 0,
+        after: &[(2, 0, 0, b"\x03\0\0\0\0\0\0\0\x02\0\0\0\0\0\0\0\0\0")],
+    },
+    Row {
+        what: "a tombstone that links past the end, to slot 2^24 - 1",
+        before: &[(1, 0, 0, b"\x04\0\0\0\0\0\0\0\x02\0\0\0\0\0\0\x01")],
+        class: 0,
+        counts: [1, 0, 0, 0, 1, 0, 0, 0],
+        floor: 4,
+        keys: 0,
+        after: &[(1, 0, 0, b"\x04\0\0\0\0\0\0\0\x02\0\0\0\0\0\0\0\0\0")],
+    },
+    Row {
+        what: "a slot whose last byte alone isn't zero",
+        before: &[(1, 0, 127, b"\x01")],
+        class: 0,
+        counts: [2, 0, 0, 0, 0, 2, 0, 0],
+        floor: 0,
+        keys: 0,
+        after: &[
             (1, 0, 0, b"\0\0\0\0\0\0\0\0\x02\0\0\0\0\0\0\0\0\0"),
             (1, 0, 64, b"\0\0\0\0\0\0\0\0\x02\0\0\0\0\0\0\0\0\0"),
             (1, 0, 127, b"\0"),
         ],
-    ),
-    (
-        "the store goes on behind a stamp of 2^62 - 2",
-        &[(1, 0, 0, b"\xfe\xff\xff\xff\xff\xff\xff\x3f\x02\0")],
-        0,
-        [1, 0, 0, 0, 1, 0, 0, 0],
-        4_611_686_018_427_387_902,
-        0,
-        &[(
+    },
+    Row {
+        what: "the store goes on behind a stamp of 2^62 - 2",
+        before: &[(1, 0, 0, b"\xfe\xff\xff\xff\xff\xff\xff\x3f\x02\0")],
+        class: 0,
+        counts: [1, 0, 0, 0, 1, 0, 0, 0],
+        floor: 4_611_686_018_427_387_902,
+        keys: 0,
+        after: &[(
             1,
             0,
             0,
             b"\xfe\xff\xff\xff\xff\xff\xff\x3f\x02\0\0\0\0\0\0\0\0",
         )],
-    ),
-    (
-        "a large item of which the later page alone was written, at stamp 1",
-        &[(8, 1, 0, b"\x01\0\0\0\0\0\0\0later")],
-        7,
-        [1, 0, 0, 0, 0, 1, 0, 0],
-        1,
-        0,
-        &[
+    },
+    Row {
+        what: "a large item of which the later page alone was written, at stamp 1",
+        before: &[(8, 1, 0, b"\x01\0\0\0\0\0\0\0later")],
+        class: 7,
+        counts: [1, 0, 0, 0, 0, 1, 0, 0],
+        floor: 1,
+        keys: 0,
+        after: &[
             (8, 0, 0, b"\x01\0\0\0\0\0\0\0\x02\0\0\0\0\0\0\0\0\0"),
             (8, 1, 0, b"\x01\0\0\0\0\0\0\0later"),
         ],
-    ),
-    (
-        "then another of which the first page alone was written, of 5,000 bytes at stamp 2",
-        &[
+    },
+    Row {
+        what: "then another of which the first page alone was written, of 5,000 bytes at stamp 2",
+        before: &[
             (8, 0, 0, b"\x02\0\0\0\0\0\0\0\x01\0\x01\0\x88\x13\0\0cvalue"),
             (8, 1, 0, b"\x01\0\0\0\0\0\0\0later"),
         ],
-        7,
-        [1, 0, 0, 0, 0, 0, 1, 0],
-        2,
-        0,
-        &[
+        class: 7,
+        counts: [1, 0, 0, 0, 0, 0, 1, 0],
+        floor: 2,
+        keys: 0,
+        after: &[
             (8, 0, 0, b"\x02\0\0\0\0\0\0\0\x02\0\0\0\0\0\0\0\0\0"),
             (8, 1, 0, b"\x01\0\0\0\0\0\0\0later"),
         ],
-    ),
-    (
-        "a large item that was written whole, beside one without its later page",
-        &[
+    },
+    Row {
+        what: "a large item that was written whole, beside one without its later page",
+        before: &[
             (8, 0, 0, b"\x02\0\0\0\0\0\0\0\x01\0\x01\0\x88\x13\0\0cvalue"),
             (8, 1, 0, b"\x02\0\0\0\0\0\0\0later"),
             (8, 2, 0, b"\x03\0\0\0\0\0\0\0\x01\0\x01\0\x88\x13\0\0cvalue"),
         ],
-        7,
-        [2, 1, 0, 0, 0, 0, 1, 0],
-        3,
-        1,
-        &[
+        class: 7,
+        counts: [2, 1, 0, 0, 0, 0, 1, 0],
+        floor: 3,
+        keys: 1,
+        after: &[
             (8, 0, 0, b"\x02\0\0\0\0\0\0\0\x01\0\x01\0\x88\x13\0\0cvalue"),
             (8, 1, 0, b"\x02\0\0\0\0\0\0\0later"),
             (8, 2, 0, b"\x03\0\0\0\0\0\0\0\x02\0\0\0\0\0\0\0\0\0"),
         ],
-    ),
+    },
 ];
 
 // The counts in the table's order.
@@ -273,29 +272,23 @@ fn count_of(counts: [u32; 8]) -> ClassCount {
     }
 }
 
-// What a survey says before and after opening, and whether the freed slots stand there, also once it
-// was opened again.
-fn all_of(
-    alloc: Global,
-    pieces: &[Piece],
-    class: usize,
-    freed: &[Piece],
-) -> Result<((Option<ClassCount>, u64, u32), (u64, u64), bool), OpenFault> {
-    let mut disk = disk_of(alloc, &[HEAD], pieces)?;
-    let before = counts_of(alloc, &mut disk, class)?;
+// Whether a survey says what the row does, and whether the disk that was opened once, and again, has
+// the row's floor and slots.
+fn is_right(alloc: Global, row: &Row) -> Result<bool, OpenFault> {
+    let mut disk = disk_of(alloc, &[HEAD], row.before)?;
+    let (counts, floor, keys) = counts_of(alloc, &mut disk, row.class)?;
+    let said = counts == Some(count_of(row.counts)) && floor == row.floor && keys == row.keys;
     let (mut disk, floor) = opened(alloc, disk)?;
-    let freed_once = has(&mut disk, freed)?;
-    let (mut disk, again) = opened(alloc, disk)?;
-    Ok((before, (floor, again), freed_once && has(&mut disk, freed)?))
+    let freed = floor == row.floor && has(&mut disk, row.after)?;
+    let (mut disk, floor) = opened(alloc, disk)?;
+    Ok(said && freed && floor == row.floor && has(&mut disk, row.after)?)
 }
 
 #[test]
 fn what_stands_in_slots_is_counted_and_freed(rt: HostRuntime) -> Result<(), Fail> {
     let alloc = rt.alloc();
-    for (what, pieces, class, counts, floor, keys, freed) in &ROWS {
-        let found = all_of(alloc, *pieces, *class, *freed)?;
-        let wanted = (Some(count_of(*counts)), *floor, *keys);
-        assert_eq!(rt; found, (wanted, (*floor, *floor), true), "{what}");
+    for row in &ROWS {
+        assert!(rt; is_right(alloc, row)?, "{}", row.what);
     }
     Ok(())
 }
@@ -396,10 +389,10 @@ fn has_links(disk: &mut PlainDisk, count: u32) -> Result<bool, OpenFault> {
         let (page, offset) = (slot / 64, slot % 64 * 64);
         let mut content = [0; 4096];
         disk.read(1, page, &mut content)?;
-        let mut wanted = [0; 64];
+        let mut wanted = [0u8; 64];
         wanted[0] = 42;
         wanted[8] = 2;
-        wanted[12] = slot.saturating_sub(63) as u8;
+        wanted[12..16].copy_from_slice(&slot.saturating_sub(63).to_le_bytes());
         let there = content.iter().skip(offset as usize).take(64);
         all = all && there.eq(wanted.iter());
     }

@@ -2,6 +2,8 @@ ghost use Rattle.std.specs.Prelude.{◌≡◌, ℕ, ◌+◌, ◌-◌, ◌^◌, �
 
 use crate::end::End;
 use crate::message::{Answer, Ask};
+use kv_base::NoMemory;
+use std::alloc::Global;
 
 /// A party's ends of its rings, one line of two rings for each party at the other side. Each ring
 /// has two places. Contracts see, for each other party by its number, what was sent to it and
@@ -34,10 +36,10 @@ fn count_if(count: u64, counted: bool) -> u64
 
 impl<S, R, const MOST: u32> Ends<S, R, MOST> {
     ghost use Rattle.std.specs.Prelude.{◌≡◌, ◌≢◌, ℕ, ◌+◌, ◌-◌, ◌<◌, ◌^◌, [], ◌∷◌, ◌++◌, length};
-    ghost use Rattle.std.specs.Prelude.{IsOk, OnOk, OnErr, IfErr, IfSome, IfNone, IsSome};
+    ghost use Rattle.std.specs.Prelude.{IsOk, IfOk, OnOk, OnErr, IfErr, IfSome, IfNone, IsSome};
     ghost use Rattle.std.specs.Prelude.{option_to_list, if◌then◌else◌, is_ok, min};
     ghost use mathlib.Core.List.{IsPrefix};
-    ghost use Rattle.kv_ring.specs.Ends.{peers, lines, sent_to, received_from, known_from};
+    ghost use Rattle.kv_ring.specs.Ends.{peers, SameRings, sent_to, received_from, known_from};
     ghost use Rattle.kv_ring.specs.Ends.{places_to, refusals, SameOut, SameBack, only_at};
 
     /// Sends a message to the party of this number, or hands it back where this end knows of no
@@ -60,7 +62,7 @@ impl<S, R, const MOST: u32> Ends<S, R, MOST> {
         // What was handed back is counted.
         ensures counted { refusals self.new
             ≡ (if is_ok result then refusals self.old else min (refusals self.old + 1) (2 ^ 64 - 1)) }
-        ensures lines { lines self.new ≡ lines self.old }
+        ensures rings { SameRings self.old self.new }
         ensures back { SameBack self.old self.new }
     {
         let pushed = self.ends[peer as usize].push(message);
@@ -83,10 +85,39 @@ impl<S, R, const MOST: u32> Ends<S, R, MOST> {
         ensures others { (other : ℕ) → other ≢ peer → known_from self.new other
             ≡ known_from self.old other }
 
-        ensures lines { lines self.new ≡ lines self.old }
+        ensures rings { SameRings self.old self.new }
         ensures out { SameOut self.old self.new }
     {
         self.ends[peer as usize].pop()
+    }
+
+    // Ends of one line.
+    pub(crate) fn one(alloc: Global, end: End<S, R>) -> Result<Ends<S, R, MOST>, NoMemory>
+    where
+        S: Drop,
+        R: Drop,
+        requires { 1 ≤ MOST }
+        ensures { IfOk result (λ ends. (ends.ends.items ≡ end ∷ []) × (refusals ends ≡ 0)) }
+    {
+        let mut ends = Vec::with_capacity(alloc, MOST as usize)?;
+        ends.push(end)?;
+        Ok(Ends {
+            ends,
+            handed_back: 0,
+        })
+    }
+
+    // Ends of one line more.
+    pub(crate) fn add(&mut self, end: End<S, R>) -> Result<(), NoMemory>
+    where
+        S: Drop,
+        R: Drop,
+        requires { peers self.old < MOST }
+        ensures ends { OnOk result (self.new.ends.items ≡ self.old.ends.items ++ end ∷ []) }
+        ensures refusals { refusals self.new ≡ refusals self.old }
+    {
+        self.ends.push(end)?;
+        Ok(())
     }
 
     /// How many pushes were handed back; the count stays at the greatest number.

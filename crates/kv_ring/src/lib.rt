@@ -3,10 +3,12 @@
 
 mod end;
 mod ends;
+mod left;
 mod message;
 mod rings;
 mod task;
 
 pub use ends::{Ends, SessionEnds, WorkerEnds};
+pub use left::left_between;
 pub use message::{Answer, Ask};
 pub use task::{Task, Tasks};

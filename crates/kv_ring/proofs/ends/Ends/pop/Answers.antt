@@ -1,6 +1,8 @@
 use Rattle.std.proofs.Common.{◌≡◌, ◌∷◌, ℕ, ◌<◌, List, ap, sym, ◌∙◌, subst, subst₂, refl, get_or}
 use Rattle.std.specs.Prelude.{IfSome, IfNone, []}
 use mathlib.Core.List.{IsPrefix}
+use Rattle.std.proofs.lemmas.List.{length-set}
+use Rattle.std.specs.Prelude.{Some, None}
 use Rattle.rtrb.specs.Ring.{sent, received, known_free, known_items}
 use Rattle.kv_ring.specs.Lines.{line_of}
 use Rattle.kv_ring.specs.declared.end.End.{End}
@@ -32,9 +34,13 @@ pub returns-clause-others : goal.returns-clause-others
 returns-clause-others g c = at-set_there (λ end. known_items end.back) c.args.self.now.ends.items
     c.args.peer c.index_mut.result.now c.pop.new.self c.requires c.index_mut.ensures.value []
 
-pub returns-clause-lines : goal.returns-clause-lines
-returns-clause-lines g c = map-exchange_same line_of c.args.self.now.ends.items c.args.peer
-    c.index_mut.result.now c.pop.new.self c.requires c.index_mut.ensures.value c.pop.ensures.line
+pub returns-clause-rings : goal.returns-clause-rings
+returns-clause-rings g c = record {
+  peers = length-set c.args.self.now.ends.items c.args.peer c.pop.new.self;
+  lines = λ other. ap (λ xs. get_or xs other None) (map-exchange_same (λ end. Some (line_of end))
+      c.args.self.now.ends.items c.args.peer c.index_mut.result.now c.pop.new.self c.requires
+      c.index_mut.ensures.value (ap Some c.pop.ensures.line));
+}
 
 pub returns-clause-out : goal.returns-clause-out
 returns-clause-out g c = record {

@@ -1,5 +1,7 @@
 use Rattle.std.proofs.Common.{◌≡◌, ◌++◌, ◌∷◌, [], ℕ, ◌<◌, length, get_or, ap, sym, ◌∙◌, subst}
 use Rattle.std.specs.Prelude.{IsOk, OnOk, OnErr}
+use Rattle.std.proofs.lemmas.List.{length-set}
+use Rattle.std.specs.Prelude.{Some, None}
 use Rattle.rtrb.specs.Ring.{sent, received, known_free, known_items}
 use Rattle.kv_ring.specs.Lines.{line_of}
 use Rattle.kv_ring.proofs.PlaceLemmas.{at-was, at-set_here, at-set_there, at-set_more}
@@ -43,10 +45,13 @@ returns-clause-others g c = at-set_there (λ end. known_free end.out) c.args.sel
     c.args.peer c.index_mut.result.now c.push-pushed.new.self c.requires
     c.index_mut.ensures.value 0
 
-pub returns-clause-lines : goal.returns-clause-lines
-returns-clause-lines g c = map-exchange_same line_of c.args.self.now.ends.items c.args.peer
-    c.index_mut.result.now c.push-pushed.new.self c.requires c.index_mut.ensures.value
-    c.push-pushed.ensures.line
+pub returns-clause-rings : goal.returns-clause-rings
+returns-clause-rings g c = record {
+  peers = length-set c.args.self.now.ends.items c.args.peer c.push-pushed.new.self;
+  lines = λ other. ap (λ xs. get_or xs other None) (map-exchange_same (λ end. Some (line_of end))
+      c.args.self.now.ends.items c.args.peer c.index_mut.result.now c.push-pushed.new.self c.requires
+      c.index_mut.ensures.value (ap Some c.push-pushed.ensures.line));
+}
 
 pub returns-clause-back : goal.returns-clause-back
 returns-clause-back g c = record {

@@ -40,10 +40,10 @@ pub at-set_more : {X Y : Type 0} (f : X → List Y) (xs : List X) (k : ℕ) (was
     → get_or (map f (set xs k y)) other [] ≡ get_or (map f xs) other [] ++ only_at k other more
 at-set_more f xs k was y more lt is e other = ⊎_elim
     (λ (same : other ≡ k). subst (λ n. get_or (map f (set xs k y)) n []
-      ≡ get_or (map f xs) n [] ++ only_at k n more) (sym same)
-      (at-set_here f xs k was y lt is [] ∙ (e ∙ ap (λ zs. zs ++ more) (sym (at-was f xs k was y lt is []))
-      ∙ ap (λ b. get_or (map f xs) k [] ++ cond b more []) (sym (eq_self k)))))
+    ≡ get_or (map f xs) n [] ++ only_at k n more) (sym same)
+    (at-set_here f xs k was y lt is [] ∙ (e ∙ ap (λ zs. zs ++ more) (sym (at-was f xs k was y lt is []))
+    ∙ ap (λ b. get_or (map f xs) k [] ++ cond b more []) (sym (eq_self k)))))
     (λ (ne : other ≢ k). at-set_there f xs k was y lt is [] other ne
-      ∙ (sym (append-nil (get_or (map f xs) other []))
-      ∙ ap (λ b. get_or (map f xs) other [] ++ cond b more []) (sym (eq_not other k ne))))
+    ∙ (sym (append-nil (get_or (map f xs) other []))
+    ∙ ap (λ b. get_or (map f xs) other [] ++ cond b more []) (sym (eq_not other k ne))))
     (let e : (other ≡ k) ⊎ (other ≢ k) = grind arith in e)

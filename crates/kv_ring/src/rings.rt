@@ -6,9 +6,7 @@ use rtrb::RingBuffer;
 use std::alloc::{AllocError, Global};
 
 /// Two rings of two places each, between two parties.
-pub(crate) fn rings<S: Drop, R: Drop>(
-    alloc: Global,
-) -> Result<(End<S, R>, End<R, S>), AllocError>
+pub(crate) fn rings<S: Drop, R: Drop>(alloc: Global) -> Result<(End<S, R>, End<R, S>), AllocError>
     ensures line { IfOk result (λ ends. IsLine ends.0 ends.1) }
     ensures new { IfOk result (λ ends. IsNew ends.0 × IsNew ends.1) }
 {

@@ -18,16 +18,16 @@ returns-clause-received g c = at-set_more (λ end. received end.back) c.args.sel
 pub returns-clause-some : goal.returns-clause-some
 returns-clause-some g c =
     let now = at-set_here (λ end. known_items end.back) c.args.self.now.ends.items c.args.peer
-        c.index_mut.result.now c.pop.new.self c.requires c.index_mut.ensures.value [] in
+    c.index_mut.result.now c.pop.new.self c.requires c.index_mut.ensures.value [] in
     let was = at-was (λ end. known_items end.back) c.args.self.now.ends.items c.args.peer
-        c.index_mut.result.now c.pop.new.self c.requires c.index_mut.ensures.value [] in
+    c.index_mut.result.now c.pop.new.self c.requires c.index_mut.ensures.value [] in
     subst₂ (λ old new. IfSome c.pop.result (λ message. IsPrefix old (message ∷ new))) (sym was)
     (sym now) c.pop.ensures.some
 
 pub returns-clause-none : goal.returns-clause-none
 returns-clause-none g c =
     let now = at-set_here (λ end. known_items end.back) c.args.self.now.ends.items c.args.peer
-        c.index_mut.result.now c.pop.new.self c.requires c.index_mut.ensures.value [] in
+    c.index_mut.result.now c.pop.new.self c.requires c.index_mut.ensures.value [] in
     subst (λ new. IfNone c.pop.result (new ≡ [])) (sym now) c.pop.ensures.none
 
 pub returns-clause-others : goal.returns-clause-others

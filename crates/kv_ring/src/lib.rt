@@ -4,11 +4,13 @@
 mod end;
 mod ends;
 mod left;
+mod matrix;
 mod message;
 mod rings;
 mod task;
 
 pub use ends::{Ends, SessionEnds, WorkerEnds};
 pub use left::left_between;
+pub use matrix::mesh;
 pub use message::{Answer, Ask};
 pub use task::{Task, Tasks};

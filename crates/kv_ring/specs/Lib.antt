@@ -1,1 +1,4 @@
 pub mod Tasks
+pub mod Lines
+pub mod Ends
+pub mod Matrix

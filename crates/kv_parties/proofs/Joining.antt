@@ -1,0 +1,335 @@
+-- The promises of all parties together.
+use Rattle.std.proofs.Common.{◌≡◌, ◌⊎◌, inl, inr, ⊎_elim, ℕ, zero, suc, ◌+◌, ◌^◌, ◌<◌, ◌≤◌, List}
+use Rattle.std.proofs.Common.{[], ◌∷◌, ◌++◌, map, Bool, true, false, cond, refl, sym, ap, ◌∙◌}
+use Rattle.std.proofs.Common.{subst, arith, append-nil}
+use Rattle.std.specs.Prelude.{nat_eq}
+use Rattle.std.specs.List.{AllByRecursion, filter, flat_map}
+use Rattle.kv_base.specs.Partition.{owner_of}
+use Rattle.kv_stamps.specs.Ranges.{among}
+use Rattle.kv_stamps.specs.declared.view.Range.{Range}
+use Rattle.kv_model.specs.History.{Write}
+use Rattle.kv_model.specs.Pairs.{Pair, writes, stamps, stamp_of, pairs_in}
+use Rattle.kv_model.specs.Agreement.{AgreesWithMap, IsAnswer, IsRefusal}
+use Rattle.kv_model.specs.Order.{RespectsOrder}
+use Rattle.kv_parties.specs.Rows.{sum_below, row}
+use Rattle.kv_parties.specs.Setting.{Setting, IsOwned}
+use Rattle.kv_parties.specs.Groups.{Asked, Answers}
+use Rattle.kv_parties.specs.Workers.{Done, done_pairs, done_for}
+use Rattle.kv_parties.specs.Sessions.{Handled, IsHandled, Exchange, exchange_pairs, goes_to}
+use Rattle.kv_parties.specs.Sessions.{part_of}
+use Rattle.kv_parties.specs.Sessions.{all_asked}
+use Rattle.kv_parties.specs.Joined.{Rings, AllKeep, IsBefore, IsQuiet, Stands, all_before}
+use Rattle.kv_parties.specs.Joined.{all_answered, all_pairs}
+use Rattle.kv_parties.proofs.Lists.{In, count, In-left, In-right, All-In, In-All, In-row}
+use Rattle.kv_parties.proofs.Lists.{In-row-back, In-filter, In-filter-back, In-map, In-map-back}
+use Rattle.kv_parties.proofs.Lists.{In-flat_map-back, flat_map-append, count-within, sum_below-le}
+use Rattle.kv_parties.proofs.Lists.{sum_below-same, sum_below-zero, sum_below-add, sum_below-swap}
+use Rattle.kv_parties.proofs.Lists.{sum_below-one}
+use Rattle.kv_parties.proofs.Agreeing.{hits, count-stamps, Owns, Fits, agrees}
+use Rattle.kv_parties.proofs.Parts.{eq_self, tally, tally-append, all_parts, IsOrdered}
+use Rattle.kv_parties.proofs.Parts.{parts_ordered, owner-lt, routed_to_owner, tally-exchanges}
+use Rattle.kv_parties.proofs.Parts.{across_exchanges, within_exchanges, in_answered, out_answered}
+use Rattle.kv_parties.proofs.Coming.{Answers-fewer, SessionPairs, heard_answers, pairs_of_session}
+
+tally-row : (t n : ℕ) (f : ℕ → List Pair) → tally t (row n f) ≡ sum_below n (λ s. tally t (f s))
+tally-row t zero f = refl
+tally-row t (suc n) f = omega (arith, tally-append t (row n f) (f n), tally-row t n f)
+
+-- what was done for each session is no more than what was done
+tally-done : (t n : ℕ) (history : List Done)
+    → sum_below n (λ s. tally t (done_for s history)) ≤ tally t (done_pairs history)
+tally-done t n [] = omega (arith, sum_below-zero n)
+tally-done t n (d ∷ history) =
+    let part : (s : ℕ) → tally t (done_for s (d ∷ history))
+    ≡ cond (nat_eq d.session s) (hits t d.pair) 0 + tally t (done_for s history) =
+    λ s. elim (nat_eq d.session s) as (λ b. tally t (done_pairs
+    (cond b (d ∷ filter (λ (e : Done). nat_eq e.session s) history)
+    (filter (λ (e : Done). nat_eq e.session s) history)))
+    ≡ cond b (hits t d.pair) 0 + tally t (done_for s history)) [
+      | true ↦ count-stamps t d.pair (done_for s history)
+      | false ↦ omega arith
+    ] in
+    omega (
+      arith,
+      sum_below-same n (λ s. tally t (done_for s (d ∷ history)))
+          (λ s. cond (nat_eq d.session s) (hits t d.pair) 0 + tally t (done_for s history))
+          (λ s lt. part s),
+      sum_below-add n (λ s. cond (nat_eq d.session s) (hits t d.pair) 0)
+          (λ s. tally t (done_for s history)),
+      sum_below-one n d.session (hits t d.pair),
+      tally-done t n history,
+      count-stamps t d.pair (done_pairs history),
+    )
+
+module _ (setting : Setting) (before : ℕ → List Write) (rings : Rings) (ranges : ℕ → List Range)
+    (groups : ℕ → List (List Pair)) (waiting : ℕ → Bool)
+    (keep : AllKeep setting before rings ranges groups waiting)
+    (base : IsBefore setting before) where
+  of_session : (s : ℕ) → s < setting.sessions
+      → SessionPairs setting (rings.asked s) (rings.heard s) (groups s) (waiting s)
+  of_session s lt = pairs_of_session setting before rings ranges groups waiting keep s lt
+
+  pub decide : (w : ℕ) → (w < setting.workers) ⊎ (setting.workers ≤ w)
+  decide w = grind arith
+
+  abbrev pub own_of : (w : ℕ) → (w < setting.workers) ⊎ (setting.workers ≤ w) → List Pair
+  own_of w (inl lt) = done_pairs (keep.workers w lt).history
+  own_of w (inr le) = []
+
+  abbrev pub own : ℕ → List Pair
+  own w = own_of w (decide w)
+
+  -- a fact on each worker's history is one on its own pairs
+  -- and one on a worker's history is one on its own pairs
+  pub of_own : (w : ℕ) (P : List Pair → Type 0)
+      → ((lt : w < setting.workers) → P (done_pairs (keep.workers w lt).history))
+      → w < setting.workers → P (own w)
+  of_own w P h lt = go (decide w)
+    where
+      go : (e : (w < setting.workers) ⊎ (setting.workers ≤ w)) → P (own_of w e)
+      go (inl less) = h less
+      go (inr le) = absurd (omega arith)
+
+  each_own : (P : ℕ → List Pair → Type 0)
+      → ((w : ℕ) (lt : w < setting.workers) → P w (done_pairs (keep.workers w lt).history))
+      → (w : ℕ) → w < setting.workers → P w (own w)
+  each_own P h w lt = go (decide w)
+    where
+      go : (e : (w < setting.workers) ⊎ (setting.workers ≤ w)) → P w (own_of w e)
+      go (inl less) = h w less
+      go (inr le) = absurd (omega arith)
+
+  history_sent : (w : ℕ) (lt : w < setting.workers) (p : Pair)
+      → In p (done_pairs (keep.workers w lt).history)
+      → (s : ℕ) × (s < setting.sessions) × In p (pairs_in (rings.answered w s))
+  history_sent w lt p i =
+      let history : List Done = (keep.workers w lt).history in
+      let back = In-map-back (λ (d : Done). d.pair) p history i in
+      let is = All-In (λ (d : Done). d.session < setting.sessions) back.0 history
+      (keep.workers w lt).known back.2 in
+      let kept = In-filter (λ (d : Done). nat_eq d.session back.0.session) back.0 history
+      (eq_self back.0.session) back.2 in
+      let there : In p (done_for back.0.session history) =
+      subst (λ q. In q (done_for back.0.session history)) back.1
+      (In-map (λ (d : Done). d.pair) back.0
+      (filter (λ (d : Done). nat_eq d.session back.0.session) history) kept) in
+      (back.0.session, is, subst (In p) (sym ((keep.workers w lt).parts back.0.session is)) there)
+
+  pub owns : Owns setting before own ranges
+  owns = record {
+    counted = each_own (λ w ps. (t : ℕ) → count t (stamps ps) ≤ among t (ranges w))
+        (λ w lt. count-within (λ t. among t (ranges w)) (stamps (done_pairs (keep.workers w
+        lt).history))
+        (keep.workers w lt).rising (keep.workers w lt).drawn);
+    replies = each_own (λ w ps. AllByRecursion (λ pair. IsAnswer setting.told setting.layout
+        (before w ++ writes ps) pair.request pair.reply) ps)
+        (λ w lt. (keep.workers w lt).right.replies);
+    owned = each_own (λ w ps. AllByRecursion (λ pair. IsOwned setting.workers w pair.request) ps)
+        (λ w lt. (keep.workers w lt).owned);
+    apart = keep.apart;
+    above = each_own (λ w ps. AllByRecursion (λ t. (setting.floor < t) × (t < 2 ^ 62)) (stamps ps))
+        (λ w lt. (keep.workers w lt).right.above);
+  }
+
+  -- what was answered to a session is the worker's own
+  in_own : (w s : ℕ) (p : Pair) → w < setting.workers → s < setting.sessions
+      → In p (pairs_in (rings.answered w s)) → In p (own w)
+  in_own w s p lt less = each_own (λ w ps. In p (pairs_in (rings.answered w s)) → In p ps)
+      (λ w lt i.
+      let history : List Done = (keep.workers w lt).history in
+      let there : In p (done_for s history) = subst (In p) ((keep.workers w lt).parts s less) i in
+      let back = In-map-back (λ (d : Done). d.pair) p
+      (filter (λ (d : Done). nat_eq d.session s) history) there in
+      let whole = (In-filter-back (λ (d : Done). nat_eq d.session s) back.0 history back.2).1 in
+      subst (λ q. In q (done_pairs history)) back.1
+      (In-map (λ (d : Done). d.pair) back.0 history whole)) w lt
+
+  -- and what is the worker's own was answered to a session
+  out_own : (w : ℕ) (p : Pair) → w < setting.workers → In p (own w)
+      → (s : ℕ) × (s < setting.sessions) × In p (pairs_in (rings.answered w s))
+  out_own w p lt = each_own (λ w ps. In p ps → (s : ℕ) × (s < setting.sessions)
+      × In p (pairs_in (rings.answered w s))) (λ w lt i. history_sent w lt p i) w lt
+
+  -- all that was answered to sessions is no more than the worker's ranges
+  few : (t w : ℕ) → w < setting.workers
+      → sum_below setting.sessions (λ s. tally t (pairs_in (rings.answered w s))) ≤ among t (ranges
+      w)
+  few t w lt =
+      let tale = keep.workers w lt in
+      omega (
+        arith,
+        sum_below-same setting.sessions (λ s. tally t (pairs_in (rings.answered w s)))
+            (λ s. tally t (done_for s tale.history)) (λ s low. ap (tally t) (tale.parts s low)),
+        tally-done t setting.sessions tale.history,
+        count-within (λ t. among t (ranges w)) (stamps (done_pairs tale.history)) tale.rising
+            tale.drawn t,
+      )
+
+  pub all_fit : Fits setting own ranges (all_answered setting rings.answered)
+  all_fit =
+      let of_worker : ℕ → List Pair =
+      λ w. row setting.sessions (λ s. pairs_in (rings.answered w s)) in
+      record {
+        each = λ p i.
+            let r = In-row-back p setting.workers of_worker i in
+            let q = In-row-back p setting.sessions (λ s. pairs_in (rings.answered r.0 s)) r.2 in
+            inl (r.0, r.1, in_own r.0 q.0 p r.1 q.1 q.2);
+        all = λ w p lt i.
+            let o = out_own w p lt i in
+            In-row p setting.workers w of_worker lt
+            (In-row p setting.sessions o.0 (λ s. pairs_in (rings.answered w s)) o.1 o.2);
+        counts = λ t.
+            omega (
+              arith,
+              tally-row t setting.workers of_worker,
+              sum_below-le setting.workers (λ w. tally t (of_worker w)) (λ w. among t (ranges w))
+                  (λ w lt. omega (
+                    arith,
+                    tally-row t setting.sessions (λ s. pairs_in (rings.answered w
+                        s)),
+                    few t w lt,
+                  )),
+            );
+      }
+
+  -- each part of each exchange of a session was answered in order
+  ordered_parts : (s : ℕ) (lt : s < setting.sessions) (w : ℕ) → w < setting.workers
+      → AllByRecursion (λ exchange. IsOrdered exchange.seen (part_of setting.workers w
+      exchange.handled))
+      (of_session s lt).exchanges
+  ordered_parts s lt w less =
+      let tale = of_session s lt in
+      let there : List Asked = all_asked setting.workers w tale.exchanges ++ tale.asking w in
+      let whole : Answers there (all_parts setting.workers w tale.exchanges ++ tale.coming w less) =
+      subst (Answers there) (tale.answers w less)
+      (subst (λ a. Answers a (rings.heard s w)) (tale.asks w less)
+      (heard_answers setting before rings ranges groups waiting keep s lt w less)) in
+      parts_ordered setting.workers w tale.exchanges (tale.asking w)
+      (Answers-fewer there (all_parts setting.workers w tale.exchanges) (tale.coming w less) whole)
+
+  ordered_groups : (s : ℕ) → s < setting.sessions → RespectsOrder (groups s)
+  ordered_groups s lt =
+      let tale = of_session s lt in
+      subst RespectsOrder (sym tale.same) (record {
+        across = across_exchanges setting.told setting.layout setting.workers base.some_worker
+            tale.exchanges tale.seen tale.handled (ordered_parts s lt);
+        within = within_exchanges setting.told setting.layout setting.workers base.some_worker
+            tale.exchanges tale.handled (ordered_parts s lt);
+      })
+
+  -- at every moment
+  pub stands : Stands setting before rings groups
+  stands = record {
+    right = agrees setting before base own ranges owns (all_answered setting rings.answered)
+        all_fit;
+    ordered = ordered_groups;
+  }
+
+  -- what a session heard is the exchanges' parts, and what comes
+  came : (s : ℕ) (lt : s < setting.sessions) (w : ℕ) (less : w < setting.workers)
+      → pairs_in (rings.heard s w) ≡ pairs_in (all_parts setting.workers w (of_session s
+      lt).exchanges)
+      ++ pairs_in ((of_session s lt).coming w less)
+  came s lt w less =
+      let tale = of_session s lt in
+      ap pairs_in (tale.answers w less) ∙ flat_map-append (λ (pairs : List Pair). pairs)
+      (all_parts setting.workers w tale.exchanges) (tale.coming w less)
+
+  -- what a worker answered a session is what this has heard, and more
+  answered-heard : (s : ℕ) (lt : s < setting.sessions) (w : ℕ) (less : w < setting.workers) (p :
+      Pair)
+      → In p (pairs_in (rings.heard s w)) → In p (pairs_in (rings.answered w s))
+  answered-heard s lt w less p i =
+      let back = keep.answers s w lt less in
+      subst (In p) (sym (flat_map-append (λ (pairs : List Pair). pairs) (rings.heard s w) back.0)
+      ∙ ap pairs_in back.1)
+      (In-left p (pairs_in (rings.heard s w)) (pairs_in back.0) i)
+
+  session_fits : (s : ℕ) (lt : s < setting.sessions) (p : Pair) → In p (pairs_in (groups s))
+      → ((w : ℕ) × (w < setting.workers) × In p (own w)) ⊎ IsRefusal setting.told setting.layout p
+  session_fits s lt p i =
+      let tale = of_session s lt in
+      let g = In-flat_map-back (λ (pairs : List Pair). pairs) p (groups s) i in
+      let there : In g.0 (map exchange_pairs tale.exchanges) = subst (In g.0) tale.same g.2 in
+      let r = In-map-back exchange_pairs g.0 tale.exchanges there in
+      let h = In-map-back (λ (x : Handled). x.pair) p r.0.handled (subst (In p) (sym r.1) g.1) in
+      let all = All-In (λ (x : Exchange). AllByRecursion (IsHandled setting.told setting.layout)
+      x.handled)
+      r.0 tale.exchanges tale.handled r.2 in
+      let is = All-In (IsHandled setting.told setting.layout) h.0 r.0.handled all h.2 in
+      (elim h.0.routed as (λ b. h.0.routed ≡ b → ((w : ℕ) × (w < setting.workers) × In p (own w))
+      ⊎ IsRefusal setting.told setting.layout p) [
+        | true ↦ λ e.
+            let to = routed_to_owner setting.told setting.layout setting.workers base.some_worker
+            h.0 is e in
+            let w : ℕ = owner_of to.0 setting.workers in
+            let less : w < setting.workers =
+            owner-lt setting.told setting.layout setting.workers base.some_worker to.0 in
+            let came_in : In h.0.pair (pairs_in (all_parts setting.workers w tale.exchanges)) =
+            in_answered setting.told setting.layout setting.workers base.some_worker w h.0 r.0
+            tale.exchanges r.2 h.2 to.2 in
+            let heard : In p (pairs_in (rings.heard s w)) = subst (In p) (sym (came s lt w less))
+            (In-left p (pairs_in (all_parts setting.workers w tale.exchanges))
+            (pairs_in (tale.coming w less))
+            (subst (λ q. In q (pairs_in (all_parts setting.workers w tale.exchanges))) h.1
+            came_in)) in
+            inl (w, less, in_own w s p less lt (answered-heard s lt w less p heard))
+        | false ↦ λ e. inr (subst (IsRefusal setting.told setting.layout) h.1 (is.own e))
+      ]) refl
+
+  module _ (quiet : IsQuiet setting rings waiting) where
+    came_all : (s : ℕ) (lt : s < setting.sessions) (w : ℕ) → w < setting.workers
+        → pairs_in (rings.answered w s) ≡ pairs_in (all_parts setting.workers w (of_session s
+        lt).exchanges)
+    came_all s lt w less =
+        let tale = of_session s lt in
+        let none : tale.coming w less ≡ [] = tale.none (quiet.waits s lt) w less in
+        ap pairs_in (sym (quiet.heard s w lt less)) ∙ (came s lt w less
+        ∙ (ap (λ c. pairs_in (all_parts setting.workers w tale.exchanges) ++ pairs_in c) none
+        ∙ append-nil (pairs_in (all_parts setting.workers w tale.exchanges))))
+
+    sessions_fit : Fits setting own ranges (all_pairs setting groups)
+    sessions_fit = record {
+      each = λ p i. let r = In-row-back p setting.sessions (λ s. pairs_in (groups s)) i in
+          session_fits r.0 r.1 p r.2;
+      all = λ w p lt i.
+          let o = out_own w p lt i in
+          let tale = of_session o.0 o.1 in
+          let exchanges_have : In p (pairs_in (all_parts setting.workers w tale.exchanges)) =
+          subst (In p) (came_all o.0 o.1 w lt) o.2 in
+          let grouped : In p (pairs_in (groups o.0)) =
+          subst (λ g. In p (pairs_in g)) (sym tale.same)
+          (out_answered setting.told setting.layout setting.workers base.some_worker w p
+          tale.exchanges exchanges_have) in
+          In-row p setting.sessions o.0 (λ s. pairs_in (groups s)) o.1 grouped;
+      counts = λ t.
+          omega (
+            arith,
+            tally-row t setting.sessions (λ s. pairs_in (groups s)),
+            sum_below-le setting.sessions (λ s. tally t (pairs_in (groups s)))
+                (λ s. sum_below setting.workers (λ w. tally t (pairs_in (rings.answered w s)))) (λ s
+                lt.
+                let tale = of_session s lt in
+                omega (
+                  arith,
+                  ap (λ g. tally t (pairs_in g)) tale.same,
+                  tally-exchanges setting.told setting.layout setting.workers base.some_worker t
+                      tale.exchanges
+                      tale.handled,
+                  sum_below-same setting.workers (λ w. tally t (pairs_in (rings.answered w s)))
+                      (λ w. tally t (pairs_in (all_parts setting.workers w tale.exchanges)))
+                      (λ w less. ap (tally t) (came_all s lt w less)),
+                )),
+            sum_below-swap setting.sessions setting.workers
+                (λ s w. tally t (pairs_in (rings.answered w s))),
+            sum_below-le setting.workers
+                (λ w. sum_below setting.sessions (λ s. tally t (pairs_in (rings.answered w s))))
+                (λ w. among t (ranges w)) (few t),
+          );
+    }
+
+    -- where all is quiet, the sessions' own pairs agree with one plain map
+    pub sessions_agree : AgreesWithMap setting.told setting.layout (all_before setting before)
+        setting.floor (all_pairs setting groups)
+    sessions_agree = agrees setting before base own ranges owns (all_pairs setting groups)
+        sessions_fit

@@ -1,0 +1,9 @@
+pub mod Rows
+pub mod Setting
+pub mod Groups
+pub mod Workers
+pub mod Sessions
+pub mod Joined
+pub mod Messages
+pub mod Promises
+pub mod Recovered

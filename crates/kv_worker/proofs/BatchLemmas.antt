@@ -93,33 +93,3 @@ can-answer told start now requests i task base stamp request replies pass same a
           (slice_get_read requests (length requests) i request refl within is);
       stamped = is_stamp;
     }
-
--- a get leaves the pass
-pub gets-in : (told : Bool) (pass : Pass) (now : Start) (asked : List Request) (request : Request)
-    (key found : List ℕ) (last : Option Last) (task stamp : ℕ) (reply : Reply) → request ≡ Get key
-    → found ≡ key → last ≡ last_of pass.overlay found
-    → ((course : Course) (writes : List Write) → KnowsLast course writes now asked found last
-    → told_of told reply ≡ told_of told (get_reply stamp (value_after now writes found)))
-    → AnswersIn told pass now asked request task stamp reply pass
-gets-in told pass now asked request key found last task stamp reply is at last_is known =
-    λ course writes stands same.
-    subst (λ r. IsAnswered told course writes r stamp reply pass) (sym is) (record {
-      answer = known course writes (record {
-        last_is = same-last course writes pass found last stands.follows last_is;
-        found = stands.found;
-        requests = same;
-        kept = stands.follows.kept;
-      }) ∙ ap (λ s. told_of told (get_reply stamp (value_after s writes found))) (sym stands.found)
-          ∙ ap (λ k. told_of told (get_reply stamp (value_after course.start writes k))) at;
-      follows = subst (λ all. Follows course all pass) (sym (append-nil writes)) stands.follows;
-    })
-
--- a request without a key leaves it too
-pub flushes-in : (told : Bool) (pass : Pass) (now : Start) (asked : List Request)
-    (request : Request) (task stamp : ℕ) → request ≡ Flush
-    → AnswersIn told pass now asked request task stamp BadKey pass
-flushes-in told pass now asked request task stamp is = λ course writes stands same.
-    subst (λ r. IsAnswered told course writes r stamp BadKey pass) (sym is) (record {
-      answer = refl;
-      follows = subst (λ all. Follows course all pass) (sym (append-nil writes)) stands.follows;
-    })

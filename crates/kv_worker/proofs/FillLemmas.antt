@@ -14,10 +14,6 @@ pub record AreFilled (old now : List (ℕ × Task)) (replies : List Reply) (i : 
   pub requests : requests_in now ≡ requests_in old
   pub done : map (λ item. item.1.reply) (take i now) ≡ map (λ reply. Some reply) (take i replies)
 
--- no task yet
-pub fill-none : (old : List (ℕ × Task)) (replies : List Reply) → AreFilled old old replies 0
-fill-none old replies = record { long = refl; sessions = refl; requests = refl; done = refl }
-
 -- one task more
 pub fill-more : (old now next : List (ℕ × Task)) (replies : List Reply) (i : ℕ)
     (item changed : ℕ × Task) (reply : Reply) → AreFilled old now replies i
@@ -44,14 +40,3 @@ fill-more old now next replies i item changed reply filled many within asked ses
           ∙ ap (map (λ r. Some r)) (sym (take_more replies i reply within
           ∙ ap (λ r. take i replies ++ r ∷ []) (sym asked)));
     }
-
--- all tasks
-pub fill-end : (old now : List (ℕ × Task)) (replies : List Reply) (i : ℕ)
-    → length replies ≡ length old → length replies ≤ i → AreFilled old now replies i
-    → AreAnswered old now replies
-fill-end old now replies i many end filled = record {
-  sessions = filled.sessions;
-  requests = filled.requests;
-  replies_are = ap (map (λ t. t.1.reply)) (sym (take_all i now (omega (arith, filled.long, many))))
-      ∙ filled.done ∙ ap (map (λ r. Some r)) (take_all i replies end);
-}

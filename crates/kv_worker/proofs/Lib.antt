@@ -11,7 +11,6 @@ pub mod FailLemmas
 pub mod ListLemmas
 pub mod StillLemmas
 pub mod ChangedLemmas
-pub mod NeededLemmas
 pub mod TaskWriteLemmas
 pub mod PlanLemmas
 pub mod RecoverLemmas

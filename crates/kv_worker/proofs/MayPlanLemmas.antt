@@ -3,11 +3,13 @@ use Rattle.std.proofs.Common.{◌≡◌, ℕ, ◌+◌, ◌-◌, ◌*◌, ◌≤�
 use Rattle.std.proofs.Common.{length, count_by, IsTrue, IsSome, None, Bool}
 use Rattle.std.specs.FinMap as finite
 use Rattle.std.specs.List.{AllByRecursion}
+use Rattle.std.specs.Option.{option_map_or}
 use Rattle.std.proofs.lemmas.List.{length-map}
 use Rattle.kv_base.specs.declared.reply.Reply.{Reply}
 use Rattle.kv_base.specs.declared.request.Request.{Request}
 use Rattle.kv_disk.specs.Steps.{ReadsAtMost}
 use Rattle.kv_disk.specs.declared.disk.Disk as disks
+use Rattle.kv_index.specs.declared.entry.Entry.{Entry}
 use Rattle.kv_index.specs.declared.index.Index as indexes
 use Rattle.kv_model.specs.Agreement.{told_of}
 use Rattle.kv_model.specs.Batch.{Start, answers, takes_slot}
@@ -18,18 +20,19 @@ use Rattle.kv_model.specs.Reading.{slot_at}
 use Rattle.kv_model.proofs.AnswersLemmas.{length-answers}
 use Rattle.kv_model.proofs.NetLemmas.{DifferentKeys}
 use Rattle.kv_ring.specs.declared.task.Task.{Task}
+use Rattle.kv_slab.specs.Batches.{FindsEntries}
 use Rattle.kv_slab.specs.Floor.{HasFloorBelow}
 use Rattle.kv_slab.specs.Memory.{items_in}
 use Rattle.kv_slab.specs.Plans.{MayPlan}
-use Rattle.kv_slab.specs.Rooms.{needed}
+use Rattle.kv_slab.specs.Rounds.{Index}
 use Rattle.kv_slab.specs.View.{View}
 use Rattle.kv_slab.specs.declared.change.Change.{Change}
+use Rattle.kv_slab.proofs.BatchLemmas.{changes_take_slots}
 use Rattle.kv_worker.specs.Batches.{IsOpenTask, requests_in}
 use Rattle.kv_worker.specs.Net.{write_of, writes_of}
 use Rattle.kv_worker.specs.Open.{ArePrepared, IsOpenStore}
 use Rattle.kv_worker.specs.Reads.{HasRead}
 use Rattle.kv_worker.specs.Worker.{start_of}
-use Rattle.kv_worker.proofs.NeededLemmas.{needed-is}
 use Rattle.kv_worker.proofs.PlanLemmas.{can-change, net-differ, net-present, net-rise, rise-length}
 use Rattle.kv_worker.proofs.StillLemmas.{IsStill, still-plan}
 use Rattle.kv_worker.proofs.TaskWriteLemmas.{IsOwnWrite, own-net}
@@ -68,6 +71,20 @@ pub differ-prepared : (told : Bool) (start : Start) (requests : List Request) (b
 differ-prepared told start requests base replies changes prepared =
     subst DifferentKeys (sym prepared.changes_are) (net-differ start requests base)
 
+-- the slot of the key's entry
+abbrev slot_in : Index → List ℕ → ℕ
+slot_in index key = option_map_or (λ (e : Entry). e.place.slot) (index key) 0
+
+-- a batch finds each key in the class and in the slot of its entry
+finds-entries : {D I : Type 0} (d : disks.Ghosts D) (i : indexes.Ghosts I) (store : View D I)
+    → FindsEntries (finite.get (i.entries store.index)) (start_of d i store)
+    (slot_in (finite.get (i.entries store.index)))
+finds-entries d i store = record {
+  layout = refl;
+  class = λ key. refl;
+  slot = λ key entry is. ap (λ o. option_map_or (λ (e : Entry). e.place.slot) o 0) is;
+}
+
 -- the changes may be planned
 pub may-plan : {D I : Type 0} (d : disks.Ghosts D) (i : indexes.Ghosts I) (old mid : View D I)
     (most base : ℕ) (tasks : List (ℕ × Task)) (replies : List Reply) (changes : List Change)
@@ -94,7 +111,8 @@ may-plan {D} {I} d i old mid most base tasks replies changes opened own read pre
     same (net-present start d.tells (slot_at all_classes (d.seen old.disk.disk)) entries requests
     base (λ key. refl)))
     (λ class low high. subst (λ n. n ≤ old.limits.slots - items_in entries class)
-    (sym (needed-is start (finite.get entries) changes class refl (λ key. refl)
+    (sym (changes_take_slots (finite.get entries) changes start (slot_in (finite.get entries)) class
+    (finds-entries d i old)
     ∙ ap (count_by (takes_slot start class)) prepared.changes_are))
     (prepared.room class low high)))
 

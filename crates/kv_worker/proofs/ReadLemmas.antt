@@ -19,23 +19,12 @@ use Rattle.kv_worker.specs.Reads.{HasRead, IsReady}
 use Rattle.kv_worker.specs.Worker.{start_of}
 use Rattle.kv_worker.proofs.StillLemmas.{still-read, start-still}
 
-pub read-none : {D I : Type 0} (d : disks.Ghosts D) (most : ℕ) (store : View D I)
-    → HasRead d most store store
-read-none d most store = record { reads = at_most-none d most store.disk.disk; rest = refl }
-
 pub read-then : {D I : Type 0} (d : disks.Ghosts D) (m n most : ℕ) (old mid new : View D I)
     → m + n ≤ most → HasRead d m old mid → HasRead d n mid new → HasRead d most old new
 read-then {D} {I} d m n most old mid new sum first next = record {
   reads = at_most-then d m n most old.disk.disk mid.disk.disk new.disk.disk sum first.reads
       next.reads;
   rest = next.rest ∙ ap (λ (v : View D I). record v { disk = new.disk }) first.rest;
-}
-
-pub read-more : {D I : Type 0} (d : disks.Ghosts D) (m most : ℕ) (old new : View D I) → m ≤ most
-    → HasRead d m old new → HasRead d most old new
-read-more d m most old new more read = record {
-  reads = at_most-more d m most old.disk.disk new.disk.disk more read.reads;
-  rest = read.rest;
 }
 
 -- what is ready stays so

@@ -23,9 +23,3 @@ item-request tasks i task within is = ap (λ t. t.1.request) is
 pub ended-requests : (tasks : List (ℕ × Task)) (i : ℕ) → length tasks ≤ i
     → length (requests_in tasks) ≤ i
 ended-requests tasks i end = subst (λ n. n ≤ i) (sym (length-requests tasks)) end
-
--- the request of a task that is read
-pub request-at : (tasks : List (ℕ × Task)) (i : ℕ) (task : ℕ × Task) → i < length tasks
-    → task ≡ get_or tasks i task → slice_get (requests_in tasks) i ≡ Some task.1.request
-request-at tasks i task within is = slice_get_read (requests_in tasks) (length (requests_in tasks))
-    i task.1.request refl (within-requests tasks i within) (item-request tasks i task within is)

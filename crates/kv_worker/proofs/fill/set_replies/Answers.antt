@@ -5,7 +5,7 @@ use Rattle.std.proofs.lemmas.Iterator.Adapters.{YieldsList-from_vec}
 use Rattle.std.proofs.lemmas.Iterator.Consumers.{YieldsList-turn, YieldsList-end}
 use Rattle.std.proofs.lemmas.List.{length_push}
 use Rattle.kv_ring.specs.declared.task.Task.{Task}
-use Rattle.kv_worker.proofs.FillLemmas.{AreFilled, fill-more, fill-end}
+use Rattle.kv_worker.proofs.FillLemmas.{AreFilled, fill-more}
 use Rattle.kv_worker.proofs.fill.set_replies.Goals as goal
 
 pub loop-reply-preserved : goal.loop-reply-preserved

@@ -17,6 +17,8 @@ mod serve;
 mod serve_disk;
 mod status;
 #[cfg(test)]
+mod stop_tests;
+#[cfg(test)]
 mod test_run;
 mod top;
 mod words;

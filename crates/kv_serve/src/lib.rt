@@ -10,10 +10,16 @@ mod laws;
 mod opening;
 mod refuse;
 mod room;
+#[cfg(test)]
+mod row_tests;
 mod run;
 mod serve;
 mod serve_disk;
 mod status;
+#[cfg(test)]
+mod stop_tests;
+#[cfg(test)]
+mod test_run;
 mod top;
 mod words;
 

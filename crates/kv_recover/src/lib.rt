@@ -1,6 +1,8 @@
 //! Opening a disk: what is kept on it is found, and every other slot is freed.
 #![tactic(auto)]
 
+#[cfg(test)]
+mod comparison_tests;
 mod entries;
 mod fault;
 mod find;

@@ -8,6 +8,8 @@ mod matrix;
 mod message;
 mod rings;
 mod task;
+#[cfg(test)]
+mod tests;
 
 pub use ends::{Ends, SessionEnds, WorkerEnds};
 pub use left::left_between;

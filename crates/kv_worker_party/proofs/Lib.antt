@@ -1,0 +1,13 @@
+pub mod TakeLemmas
+pub mod BatchedLemmas
+pub mod StampedLemmas
+pub mod SilentLemmas
+pub mod HandLemmas
+pub mod ReceiveLemmas
+pub mod GatherLemmas
+pub mod AnsweringLemmas
+pub mod DeliverLemmas
+pub mod SeatLemmas
+pub mod KeepLemmas
+pub mod TurnLemmas
+pub mod PartyLemmas

@@ -1,0 +1,26 @@
+-- nothing is sent or received
+use Rattle.std.proofs.Common.{arith, ap, sym, ◌∙◌}
+use Rattle.kv_worker_party.specs.Taking.{has_bye}
+use Rattle.kv_worker_party.proofs.PartyLemmas.{looked-promise}
+use Rattle.kv_worker_party.proofs.party.WorkerParty.left_between.Goals as goal
+
+pub invariant_of-self : goal.invariant_of-self
+invariant_of-self g c =
+    let old = c.args.self.now in
+    let looked = c.left_between.ensures.worker_ends in
+    record {
+      number_is = old.number_is;
+      workers_is = old.workers_is;
+      one_of = old.one_of;
+      size = omega (arith, old.size, looked.rings.peers);
+      idle = old.idle;
+      empty = old.empty;
+      room = old.room;
+      started = old.started;
+      ahead = old.ahead;
+      gone = λ s lt. old.gone s (omega (arith, lt, looked.rings.peers))
+          ∙ ap has_bye (sym (looked.received s));
+      promise = λ before begins. looked-promise g.D.Disk g.I.Index old.seat.view.start
+          old.first.value old.worker old.ends c.left_between.new.worker_ends c.args.session
+          old.connections.items old.seat.view before looked (old.promise before begins);
+    }

@@ -1,0 +1,28 @@
+-- a look draws nothing
+use Rattle.std.proofs.Common.{arith}
+use Rattle.kv_worker_party.proofs.SeatLemmas.{looked-stayed}
+use Rattle.kv_worker_party.proofs.PartyLemmas.{later-promise}
+use Rattle.kv_worker_party.proofs.party.WorkerParty.look.Goals as goal
+
+pub invariant_of-self : goal.invariant_of-self
+invariant_of-self g c =
+    let old = c.args.self.now in
+    let v = c.look.ensures.value in
+    let stays = looked-stayed v.0 old.seat.view c.look.new.seat.view v.2 in
+    record {
+      number_is = old.number_is;
+      workers_is = old.workers_is;
+      one_of = old.one_of;
+      size = old.size;
+      idle = old.idle;
+      empty = old.empty;
+      room = old.room;
+      started = (
+        omega (arith, stays.start, old.started.0),
+        omega (arith, stays.start, stays.up, old.started.1),
+      );
+      ahead = λ open_. let a = old.ahead open_ in omega (arith, a, stays.up);
+      gone = old.gone;
+      promise = later-promise g.D.Disk g.I.Index old.first.value old.worker old.ends
+          old.connections.items old.seat.view c.look.new.seat.view stays old.promise;
+    }

@@ -1,0 +1,14 @@
+-- one more with nothing in hand
+use Rattle.std.proofs.Common.{◌≡◌, ℕ, subst, sym, arith}
+use Rattle.kv_worker_party.specs.Taking.{connection_of, new_connection}
+use Rattle.kv_worker_party.proofs.GatherLemmas.{all-new}
+use Rattle.kv_worker_party.proofs.party.new_connections.Goals as goal
+
+pub loop-made-preserved : goal.loop-made-preserved
+loop-made-preserved g c = record {
+  size = omega (arith, c.loop-made.invariant.size);
+  new = λ session. subst (λ xs. connection_of xs session ≡ new_connection)
+      (sym c.in_ok-push.ensures.items)
+      (all-new c.loop-made.connections.items c.new.result c.new.ensures
+      c.loop-made.invariant.new session);
+}

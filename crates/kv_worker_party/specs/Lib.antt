@@ -1,0 +1,9 @@
+pub mod Batched
+pub mod Traffic
+pub mod Taking
+pub mod Gathering
+pub mod Delivering
+pub mod Serving
+pub mod Turns
+pub mod Laws
+pub mod Party

@@ -1,0 +1,87 @@
+-- What a worker's party promises of what went through its rings, its stamps, its map and its disk.
+use Rattle.std.specs.Prelude.{◌≡◌, ℕ, ◌+◌, ◌-◌, ◌<◌, ◌≤◌, List, [], ◌++◌, length, Bool, true, false}
+use Rattle.std.specs.Prelude.{option_to_list, MatchOption, ⊤}
+use Rattle.std.specs.List.{AllByRecursion}
+use Rattle.kv_base.specs.Crash.{LeavesOnly, MayLeave}
+use Rattle.kv_base.specs.Image.{Image}
+use Rattle.kv_disk.specs.declared.disk.Disk as disks
+use Rattle.kv_index.specs.declared.index.Index as indexes
+use Rattle.kv_model.specs.History.{Write}
+use Rattle.kv_model.specs.Items.{FollowsHistory}
+use Rattle.kv_model.specs.Layout.{all_classes}
+use Rattle.kv_model.specs.Pairs.{Pair, stamp_of, writes, unsure_writes}
+use Rattle.kv_model.specs.Recovery.{RecoversPrefix}
+use Rattle.kv_parties.specs.Messages.{groups_in, answered_in}
+use Rattle.kv_parties.specs.Promises.{WorkerPromise}
+use Rattle.kv_parties.specs.Recovered.{Recovers}
+use Rattle.kv_parties.specs.Setting.{Setting}
+use Rattle.kv_parties.specs.Workers.{done_pairs}
+use Rattle.kv_ring.specs.Ends.{sent_to, received_from, peers}
+use Rattle.kv_ring.specs.declared.ends.Ends.{Ends}
+use Rattle.kv_ring.specs.declared.message.Answer.{Answer}
+use Rattle.kv_ring.specs.declared.message.Ask.{Ask}
+use Rattle.kv_stamps.specs.declared.view.View.{View}
+use Rattle.kv_worker_party.specs.declared.connection.Connection.{Connection}
+use Rattle.kv_worker_party.specs.Taking.{connection_of}
+use Rattle.kv_worker.specs.Worker.{WorkerView, start_of}
+
+-- the answers that were sent to the session, and the one that waits to be sent
+abbrev pub answers_to : {F : Type 0} → Ends (Answer F) (Ask F) 8 → List (Connection F) → ℕ
+    → List (Answer F)
+answers_to ends connections session = sent_to ends session
+    ++ option_to_list (connection_of connections session).waiting
+
+-- what all parties serve, as a worker knows it: stamps begin with this one
+abbrev pub setting_of : Bool → ℕ → ℕ → ℕ → Setting
+setting_of told start sessions workers = record {
+  told = told;
+  layout = all_classes;
+  floor = start - 1;
+  sessions = sessions;
+  workers = workers;
+}
+
+-- at each moment between the two disks a crash leaves of each key the value after a prefix of the
+-- earlier writes, the acknowledged and the unsure ones, which holds all earlier ones; and at the last
+-- one of all acknowledged ones too
+pub record LeavesPrefixes {D : Type 0} (d : disks.Ghosts D) (setting : Setting) (worker : ℕ)
+    (first now : D) (before : List Write) (pairs : List Pair) : Type 0 where
+  pub any_moment : LeavesOnly (d.calls first) (d.calls now) (d.leaves first) (d.leaves now)
+      (λ image. Recovers setting worker image false before pairs)
+  pub exit : (image : Image) → MayLeave (d.leaves now (d.calls now)) image
+      → Recovers setting worker image true before pairs
+
+-- the open worker begins with what these writes left, none of whose stamps is above the floor, and a
+-- crash now leaves all of them
+pub record BeginsWith {D I : Type 0} (d : disks.Ghosts D) (i : indexes.Ghosts I)
+    (worker : WorkerView D I) (before : List Write) (floor : ℕ) : Type 0 where
+  pub open_ : worker.store.closed ≡ false
+  pub below : AllByRecursion (λ write. write.stamp ≤ floor) before
+  pub follows : FollowsHistory d.tells before floor (start_of d i worker.store)
+  pub recovers : (image : Image)
+      → MayLeave (d.leaves worker.store.disk.disk (d.calls worker.store.disk.disk)) image
+      → RecoversPrefix all_classes before before image worker.store.worker worker.store.workers
+
+-- the party keeps its promise of what it received and sent, from these writes on: each group that it
+-- took is answered; all stamps are below what its seat has seen; an open worker's map is what its
+-- history gives; and a crash leaves a prefix of this
+pub record Holds {D I F : Type 0} (d : disks.Ghosts D) (i : indexes.Ghosts I)
+    (start sessions : ℕ) (first now : WorkerView D I) (ends : Ends (Answer F) (Ask F) 8)
+    (connections : List (Connection F)) (view : View) (before : List Write) : Type 0 where
+  pub promise : WorkerPromise (setting_of d.tells start sessions first.store.workers)
+      first.store.worker before (received_from ends) (answers_to ends connections) view.drawn
+  pub whole : (session : ℕ) → session < sessions
+      → length (answered_in (answers_to ends connections session))
+      ≡ length (groups_in (promise.taken session))
+  pub low : AllByRecursion (λ pair. MatchOption (stamp_of pair.reply) ⊤ (λ stamp. stamp < view.seen))
+      (done_pairs promise.groups.history)
+  pub follows : now.store.closed ≡ false → (stamp : ℕ) → view.seen ≤ stamp + 1
+      → FollowsHistory d.tells (before ++ writes (done_pairs promise.groups.history)) stamp
+      (start_of d i now.store)
+  pub sure : now.store.closed ≡ false
+      → unsure_writes (done_pairs promise.groups.history) ≡ []
+  pub leaves : LeavesPrefixes d (setting_of d.tells start sessions first.store.workers)
+      first.store.worker first.store.disk.disk now.store.disk.disk before
+      (done_pairs promise.groups.history)
+  pub same : (now.store.worker ≡ first.store.worker)
+      × (now.store.workers ≡ first.store.workers) × (now.store.limits ≡ first.store.limits)

@@ -74,20 +74,20 @@ module _ {F : Type 0} where
         items_are = s.0;
         each = λ k le less. ⊎_elim
             (λ (e : k ≡ j).
-              let P : Traffic F → Connection F → Connection F → Type 0 = λ t a b.
-              Delivers t (traffic_with new j) a b (tasks_of groups j) in
-              subst (λ n. Delivers (traffic_with ends n) (traffic_with new n) (connection_of old n)
-              (connection_of (set now j got) n) (tasks_of groups n)) (sym e)
-              (subst (λ t. P t (connection_of old j) (connection_of (set now j got) j)) here.0
-              (subst (λ a. P (traffic_with mid j) a (connection_of (set now j got) j)) (sym old_is)
-              (subst (λ b. P (traffic_with mid j) was b) (sym (set-here now j got inside)) s.1))))
+            let P : Traffic F → Connection F → Connection F → Type 0 = λ t a b.
+            Delivers t (traffic_with new j) a b (tasks_of groups j) in
+            subst (λ n. Delivers (traffic_with ends n) (traffic_with new n) (connection_of old n)
+            (connection_of (set now j got) n) (tasks_of groups n)) (sym e)
+            (subst (λ t. P t (connection_of old j) (connection_of (set now j got) j)) here.0
+            (subst (λ a. P (traffic_with mid j) a (connection_of (set now j got) j)) (sym old_is)
+            (subst (λ b. P (traffic_with mid j) was b) (sym (set-here now j got inside)) s.1))))
             (λ (ne : k ≢ j).
-              let up : j + 1 ≤ k = omega (arith, le, ne) in
-              let P : Traffic F → Connection F → Type 0 = λ t b.
-              Delivers (traffic_with ends k) t (connection_of old k) b (tasks_of groups k) in
-              subst (λ t. P t (connection_of (set now j got) k)) (sym (others k ne))
-              (subst (λ b. P (traffic_with mid k) b) (sym (set-there now j k got ne))
-              (d.each k up less)))
+            let up : j + 1 ≤ k = omega (arith, le, ne) in
+            let P : Traffic F → Connection F → Type 0 = λ t b.
+            Delivers (traffic_with ends k) t (connection_of old k) b (tasks_of groups k) in
+            subst (λ t. P t (connection_of (set now j got) k)) (sym (others k ne))
+            (subst (λ b. P (traffic_with mid k) b) (sym (set-there now j k got ne))
+            (d.each k up less)))
             (one_place k j);
         earlier = λ k less.
             let ne : k ≢ j = λ e. absurd (omega (arith, less, e)) in

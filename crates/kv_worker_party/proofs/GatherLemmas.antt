@@ -129,22 +129,22 @@ module _ {F : Type 0} where
             ∙ ap (in_hand 0) (sym (map-append tasks g.intakes (intake ∷ []))));
         each = λ s less. ⊎_elim
             (λ (e : s ≡ i). subst (λ n. Gathers worker workers (traffic_with ends n)
-              (traffic_with new n) (connection_of old n) (connection_of (set now i got) n)
-              (intake_of (g.intakes ++ intake ∷ []) n)) (sym e)
-              (at_place i was got intake g.intakes old now mid ends new g.many inside old_is here.0
-              step))
+            (traffic_with new n) (connection_of old n) (connection_of (set now i got) n)
+            (intake_of (g.intakes ++ intake ∷ []) n)) (sym e)
+            (at_place i was got intake g.intakes old now mid ends new g.many inside old_is here.0
+            step))
             (λ (ne : s ≢ i).
-              let low : s < i = omega (arith, less, ne) in
-              let old_step = g.each s low in
-              let P : Traffic F → Connection F → Intake F → Type 0 = λ t c j. Gathers worker workers
-              (traffic_with ends s) t (connection_of old s) c j in
-              subst (λ t. P t (connection_of (set now i got) s)
-              (intake_of (g.intakes ++ intake ∷ []) s)) (sym (others s ne))
-              (subst (λ c. P (traffic_with mid s) c (intake_of (g.intakes ++ intake ∷ []) s))
-              (sym (set-there now i s got ne))
-              (subst (λ j. P (traffic_with mid s) (connection_of now s) j)
-              (sym (get_or_append_left g.intakes (intake ∷ []) nothing s
-              (omega (arith, low, g.many)))) old_step)))
+            let low : s < i = omega (arith, less, ne) in
+            let old_step = g.each s low in
+            let P : Traffic F → Connection F → Intake F → Type 0 = λ t c j. Gathers worker workers
+            (traffic_with ends s) t (connection_of old s) c j in
+            subst (λ t. P t (connection_of (set now i got) s)
+            (intake_of (g.intakes ++ intake ∷ []) s)) (sym (others s ne))
+            (subst (λ c. P (traffic_with mid s) c (intake_of (g.intakes ++ intake ∷ []) s))
+            (sym (set-there now i s got ne))
+            (subst (λ j. P (traffic_with mid s) (connection_of now s) j)
+            (sym (get_or_append_left g.intakes (intake ∷ []) nothing s
+            (omega (arith, low, g.many)))) old_step)))
             (one_place s i);
         later = λ s le.
             let ne : s ≢ i = λ e. absurd (omega (arith, le, e)) in

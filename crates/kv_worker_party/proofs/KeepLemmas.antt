@@ -603,10 +603,10 @@ module _ {D I : Type 0} (laws : PartyLaws) (d : disks.Ghosts D) (i : indexes.Gho
           ++ unsure_writes (pairs ++ pairs_of requests replies)) (before ++ writes pairs) image
           first.store.worker first.store.workers)
           (λ image left.
-            let Q : List Write → List Write → Type 0 = λ w u. RecoversPrefix all_classes
-            (before ++ w ++ u) (before ++ writes pairs) image first.store.worker
-            first.store.workers in
-            subst₂ Q (sym stays.0) (sym stays.1) (keeps.leaves.exit image left)))
+          let Q : List Write → List Write → Type 0 = λ w u. RecoversPrefix all_classes
+          (before ++ w ++ u) (before ++ writes pairs) image first.store.worker
+          first.store.workers in
+          subst₂ Q (sym stays.0) (sym stays.1) (keeps.leaves.exit image left)))
 
       by : HasServed d i old now view later seen requests replies
           → LeavesOnly (d.calls old.store.disk.disk) (d.calls now.store.disk.disk)
@@ -636,7 +636,7 @@ module _ {D I : Type 0} (laws : PartyLaws) (d : disks.Ghosts D) (i : indexes.Gho
           first.store.worker first.store.workers)
           (stepped.steps.any_moment history goes)
           (λ image is.
-            let P : ℕ → ℕ → Type 0 = λ m n. RecoversPrefix all_classes
-            (history ++ writes group ++ unsure_writes group) history image m n in
-            subst (λ w. RecoversPrefix all_classes w history image first.store.worker
-            first.store.workers) (sym whole) (subst₂ P keeps.same.0 keeps.same.1 is))
+          let P : ℕ → ℕ → Type 0 = λ m n. RecoversPrefix all_classes
+          (history ++ writes group ++ unsure_writes group) history image m n in
+          subst (λ w. RecoversPrefix all_classes w history image first.store.worker
+          first.store.workers) (sym whole) (subst₂ P keeps.same.0 keeps.same.1 is))

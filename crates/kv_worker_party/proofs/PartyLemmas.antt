@@ -21,7 +21,7 @@ use Rattle.kv_parties.specs.Recovered.{Recovers}
 use Rattle.kv_parties.specs.Workers.{done_pairs, done_for}
 use Rattle.kv_stamps.specs.Ranges.{among}
 use Rattle.kv_worker_party.specs.Laws.{PartyLaws}
-use Rattle.kv_worker_party.specs.Party.{BeginsWith, Holds, answers_to, setting_of}
+use Rattle.kv_worker_party.specs.Party.{BeginsWith, Holds, StoodAndGoesOn, answers_to, setting_of}
 use Rattle.kv_worker_party.proofs.StampedLemmas.{has-weaker}
 use Rattle.kv_worker_party.proofs.TurnLemmas.{holds-turn}
 use Rattle.kv_base.specs.Reserved.{Reserved}
@@ -53,7 +53,7 @@ use Rattle.kv_worker_party.specs.Serving.{IsIdle, IsClosed, IsSpent, IsStepped, 
 use Rattle.kv_worker_party.specs.Taking.{connection_of, new_connection, group_taken, takes_group}
 use Rattle.kv_worker_party.specs.Taking.{has_bye, is_bye}
 use Rattle.kv_worker_party.specs.Traffic.{Traffic, traffic_with}
-use Rattle.kv_worker_party.specs.Turns.{Exchanges, Turns, answer_to, asked_seen, asked_seens, asked_tasks, turn_of}
+use Rattle.kv_worker_party.specs.Turns.{Exchanges, Turns, answer_to, asked_seen, asked_seens, asked_tasks, turn_of, StaysAhead}
 use Rattle.kv_worker.specs.Worker.{WorkerView, start_of}
 use Rattle.kv_worker_party.proofs.GatherLemmas.{or-false, or-assoc}
 use Rattle.kv_worker_party.proofs.BatchedLemmas.{in_hand-all, regroup, all-many, answered-at, answered-many}
@@ -198,8 +198,12 @@ module _ {F : Type 0} where
         (in_hand 0 (map (λ intake. intake.tasks) intakes))
     gathered-open = in_hand-all (IsOpenTask worker workers) 0
         (map (λ (intake : Intake F). intake.tasks) intakes) (λ k lt.
-        let e = g.each k (omega (arith, lt, g.many,
-        length-map intakes (λ (intake : Intake F). intake.tasks))) in
+        let e = g.each k (omega (
+          arith,
+          lt,
+          g.many,
+          length-map intakes (λ (intake : Intake F). intake.tasks),
+        )) in
         subst (λ ts. AllByRecursion (IsOpenTask worker workers) (of_session (0 + k) ts))
         (sym (tasks-at intakes k ∙ hand-tasks (taken_by worker workers (intake_of intakes k))
         (connection_of between k) (intake_of intakes k).tasks e.taken))
@@ -216,14 +220,14 @@ module _ {F : Type 0} where
     pub gathered-free : AreFree between
     gathered-free s = ⊎_elim
         (λ (lt : s < length between).
-          let e = g.each s (omega (arith, lt, g.size, size)) in
-          ⊎_elim
-          (λ (none : taken_by worker workers (intake_of intakes s) ≡ None).
-            inl (subst (λ o. IsInHand o (connection_of between s) (intake_of intakes s).tasks) none
-            e.taken).0)
-          (λ (free : (intake_of intakes s).waits ≡ false).
-            inr (no-waiting (connection_of between s).waiting (sym e.waits ∙ free)))
-          (taken-free worker workers (intake_of intakes s).waits (intake_of intakes s).came))
+        let e = g.each s (omega (arith, lt, g.size, size)) in
+        ⊎_elim
+        (λ (none : taken_by worker workers (intake_of intakes s) ≡ None).
+        inl (subst (λ o. IsInHand o (connection_of between s) (intake_of intakes s).tasks) none
+        e.taken).0)
+        (λ (free : (intake_of intakes s).waits ≡ false).
+        inr (no-waiting (connection_of between s).waiting (sym e.waits ∙ free)))
+        (taken-free worker workers (intake_of intakes s).waits (intake_of intakes s).came))
         (λ (le : length between ≤ s). inl (ap (λ (c : Connection F). c.group) (past between s le)))
         (decide s (length between))
       where
@@ -249,14 +253,14 @@ module _ {F : Type 0} where
           items_are = r.now_is;
           sizes = λ s. ⊎_elim
               (λ (lt : s < length between).
-                let e = g.each s (omega (arith, lt, g.size, size)) in
-                answered-many (tasks_of groups s) (tasks_of r.answered s)
-                (answered-at groups r.answered r.each s) ∙ ap length (tasks-at intakes s)
-                ∙ sym (hand-size (taken_by worker workers (intake_of intakes s))
-                (connection_of between s) (intake_of intakes s).tasks e.taken))
+              let e = g.each s (omega (arith, lt, g.size, size)) in
+              answered-many (tasks_of groups s) (tasks_of r.answered s)
+              (answered-at groups r.answered r.each s) ∙ ap length (tasks-at intakes s)
+              ∙ sym (hand-size (taken_by worker workers (intake_of intakes s))
+              (connection_of between s) (intake_of intakes s).tasks e.taken))
               (λ (le : length between ≤ s).
-                ap length (tasks-past r.answered s (omega (arith, le, all)))
-                ∙ sym (ap (λ (c : Connection F). length (tasks_in c.group)) (past between s le)))
+              ap length (tasks-past r.answered s (omega (arith, le, all)))
+              ∙ sym (ap (λ (c : Connection F). length (tasks_in c.group)) (past between s le)))
               (decide s (length between));
         }
 
@@ -340,22 +344,15 @@ module _ {F : Type 0} where
         }
 
 -- what a batch leaves of the seat's view and of an open worker's highest stamp
-pub record Stays {D I : Type 0} (old now : WorkerView D I) (view later : View) : Type 0 where
-  pub worker : now.store.worker ≡ old.store.worker
-  pub workers : now.store.workers ≡ old.store.workers
-  pub start : later.start ≡ view.start
-  pub up : view.seen ≤ later.seen
-  pub ahead : now.store.closed ≡ false → now.highest < later.seen
-
 pub served-stays : {D I : Type 0} (d : disks.Ghosts D) (i : indexes.Ghosts I)
     (old now : WorkerView D I) (view later : View) (seen : ℕ) (requests : List Request)
     (replies : List Reply) → HasServed d i old now view later seen requests replies
-    → (old.store.closed ≡ false → old.highest < view.seen) → Stays old now view later
+    → (old.store.closed ≡ false → old.highest < view.seen) → StaysAhead old now view later
 served-stays {D} {I} d i old now view later seen requests replies served ahead = by served
   where
     same : (later : View) → now ≡ old → later.start ≡ view.start → view.seen ≤ later.seen
-        → Stays old now view later
-    same later e start up = subst (λ (w : WorkerView D I). Stays old w view later) (sym e)
+        → StaysAhead old now view later
+    same later e start up = subst (λ (w : WorkerView D I). StaysAhead old w view later) (sym e)
         (record {
           worker = refl;
           workers = refl;
@@ -364,7 +361,7 @@ served-stays {D} {I} d i old now view later seen requests replies served ahead =
           ahead = λ open_. let a = ahead open_ in omega (arith, a, up);
         })
 
-    by : HasServed d i old now view later seen requests replies → Stays old now view later
+    by : HasServed d i old now view later seen requests replies → StaysAhead old now view later
     by (inl idle) = same later idle.worker (ap (λ (v : View). v.start) idle.view_is)
         (let e = ap (λ (v : View). v.seen) idle.view_is in omega (arith, e))
     by (inr (inl closed)) = same later closed.worker (ap (λ (v : View). v.start) closed.view_is)
@@ -402,6 +399,28 @@ answered-length old new replies are =
     sym (length-map new (λ (p : ℕ × Task). p.0)) ∙ ap length are.sessions
     ∙ length-map old (λ (p : ℕ × Task). p.0)
 
+-- the promise stood, and goes on
+pub goes-from : {D I F : Type 0} (laws : PartyLaws) (d : disks.Ghosts D) (i : indexes.Ghosts I)
+    (first old now : WorkerView D I) (ends new : Ends (Answer F) (Ask F) 8)
+    (connections after : List (Connection F)) (view later : View) (turn : Turn)
+    → (1 ≤ view.start) × (view.start ≤ view.seen)
+    → ((before : List Write) → BeginsWith d i first before (view.start - 1)
+    → ∥ Holds d i view.start (peers ends) first old ends connections view before ∥₁)
+    → Turns d i old now ends new connections after view later turn
+    → (before : List Write) → BeginsWith d i first before (view.start - 1)
+    → ∥ StoodAndGoesOn d i view.start (peers ends) first old now ends new connections after view
+    later before ∥₁
+goes-from {D = D} {I = I} {F = F} laws d i first old now ends new connections after view later turn
+    started promise t before begins =
+    ∥∥₁_map (promise before begins)
+    (λ (h : Holds d i view.start (peers ends) first old ends connections view before). (
+      h,
+      holds-turn laws d i view.start (peers ends) first old now ends new connections after view
+          later turn before h started
+          (All-map (λ write. write.stamp ≤ view.start - 1) (λ write. write.stamp < view.seen) before
+          (λ write le. omega (arith, le, started.0, started.1)) begins.below) refl t,
+    ))
+
 -- the promise goes on
 pub goes-on : {D I F : Type 0} (laws : PartyLaws) (d : disks.Ghosts D) (i : indexes.Ghosts I)
     (first old now : WorkerView D I) (ends new : Ends (Answer F) (Ask F) 8)
@@ -414,16 +433,11 @@ pub goes-on : {D I F : Type 0} (laws : PartyLaws) (d : disks.Ghosts D) (i : inde
     → ∥ Holds d i later.start (peers new) first now new after later before ∥₁
 goes-on {D = D} {I = I} {F = F} laws d i first old now ends new connections after view later turn
     started promise t start_is before begins =
-    let begins_old : BeginsWith d i first before (view.start - 1) =
-    subst (λ n. BeginsWith d i first before (n - 1)) start_is begins in
     let P : ℕ → ℕ → Type 0 = λ m n. Holds d i m n first now new after later before in
-    ∥∥₁_map (promise before begins_old)
-    (λ (h : Holds d i view.start (peers ends) first old ends connections view before).
-    subst₂ P (sym start_is) (sym t.rings.peers)
-    (holds-turn laws d i view.start (peers ends) first old now ends new connections after view later
-    turn before h started
-    (All-map (λ write. write.stamp ≤ view.start - 1) (λ write. write.stamp < view.seen) before
-    (λ write le. omega (arith, le, started.0, started.1)) begins_old.below) refl t).holds)
+    ∥∥₁_map (goes-from laws d i first old now ends new connections after view later turn started
+    promise t before (subst (λ n. BeginsWith d i first before (n - 1)) start_is begins))
+    (λ (g : StoodAndGoesOn d i view.start (peers ends) first old now ends new connections after view
+    later before). subst₂ P (sym start_is) (sym t.rings.peers) g.1.holds)
 
 -- the promise stays where only the seat looked, raised or nothing was drawn
 pub goes-later : {D I F : Type 0} (d : disks.Ghosts D) (i : indexes.Ghosts I)

@@ -98,19 +98,19 @@ module _ {F : Type 0} where
       → Receives session worker workers ends new old now found
   popped-receives session worker workers ends new old now came found found_is received none others
       out rings taken = record {
-    came = came;
-    found_is = found_is;
-    received = received session
-        ∙ ap (λ xs. received_from ends session ++ xs) (only-here session (option_to_list came));
-    none = none;
-    sent = out.sent session;
-    taken = taken;
-    others = λ other ne. same-traffic ends new other
-        (received other ∙ ap (λ xs. received_from ends other ++ xs)
-        (only-there session other (option_to_list came) ne)
-        ∙ append-nil (received_from ends other)) (out.sent other) (others other ne);
-    rings = rings;
-  }
+        came = came;
+        found_is = found_is;
+        received = received session
+            ∙ ap (λ xs. received_from ends session ++ xs) (only-here session (option_to_list came));
+        none = none;
+        sent = out.sent session;
+        taken = taken;
+        others = λ other ne. same-traffic ends new other
+            (received other ∙ ap (λ xs. received_from ends other ++ xs)
+            (only-there session other (option_to_list came) ne)
+            ∙ append-nil (received_from ends other)) (out.sent other) (others other ne);
+        rings = rings;
+      }
 
   -- what a message leaves
   after-waiting : (worker workers : ℕ) (c : Connection F) (came : Option (Ask F))

@@ -48,7 +48,7 @@ use Rattle.kv_worker.specs.Batches.{AreAnswered, IsOpenTask, requests_in}
 use Rattle.kv_worker_party.specs.Delivering.{tasks_of}
 use Rattle.kv_worker_party.specs.Gathering.{Intake, intake_of, taken_by, nothing, greatest}
 use Rattle.kv_worker_party.specs.Laws.{PartyLaws}
-use Rattle.kv_worker_party.specs.Party.{Holds, LeavesPrefixes, answers_to, setting_of}
+use Rattle.kv_worker_party.specs.Party.{GoesOn, Holds, LeavesPrefixes, answers_to, setting_of}
 use Rattle.kv_worker_party.specs.Taking.{connection_of, group_taken, takes_group}
 use Rattle.kv_worker_party.specs.Traffic.{traffic_with}
 use Rattle.kv_worker_party.specs.Turns.{Exchanges, Turns, answer_to, asked_seen, asked_seens, asked_tasks}
@@ -203,22 +203,6 @@ owned-pairs worker workers [] replies all = tt
 owned-pairs worker workers (item ∷ items) [] all = tt
 owned-pairs worker workers (item ∷ items) (reply ∷ replies) all =
     (all.0.owned, owned-pairs worker workers items replies all.1)
-
--- the promise goes on, with more behind its history; and at each moment of the turn a crash leaves a
--- prefix that holds all that was answered before it
-pub record GoesOn {D I F : Type 0} (d : disks.Ghosts D) (i : indexes.Ghosts I)
-    (start sessions : ℕ) (first old now : WorkerView D I) (ends new : Ends (Answer F) (Ask F) 8)
-    (connections after : List (Connection F)) (view later : View) (before : List Write)
-    (h : Holds d i start sessions first old ends connections view before) : Type 0 where
-  pub holds : Holds d i start sessions first now new after later before
-  pub more : List Done
-  pub longer : holds.promise.groups.history ≡ h.promise.groups.history ++ more
-  pub moments : LeavesOnly (d.calls old.store.disk.disk) (d.calls now.store.disk.disk)
-      (d.leaves old.store.disk.disk) (d.leaves now.store.disk.disk)
-      (λ image. RecoversPrefix all_classes
-      (all_writes before (done_pairs holds.promise.groups.history))
-      (before ++ writes (done_pairs h.promise.groups.history)) image first.store.worker
-      first.store.workers)
 
 -- the promise goes on through a turn
 pub holds-turn : {D I F : Type 0} (laws : PartyLaws) (d : disks.Ghosts D) (i : indexes.Ghosts I)

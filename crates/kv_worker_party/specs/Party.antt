@@ -13,9 +13,9 @@ use Rattle.kv_model.specs.Pairs.{Pair, stamp_of, writes, unsure_writes}
 use Rattle.kv_model.specs.Recovery.{RecoversPrefix}
 use Rattle.kv_parties.specs.Messages.{groups_in, answered_in}
 use Rattle.kv_parties.specs.Promises.{WorkerPromise}
-use Rattle.kv_parties.specs.Recovered.{Recovers}
+use Rattle.kv_parties.specs.Recovered.{Recovers, all_writes}
 use Rattle.kv_parties.specs.Setting.{Setting}
-use Rattle.kv_parties.specs.Workers.{done_pairs}
+use Rattle.kv_parties.specs.Workers.{Done, done_pairs}
 use Rattle.kv_ring.specs.Ends.{sent_to, received_from, peers}
 use Rattle.kv_ring.specs.declared.ends.Ends.{Ends}
 use Rattle.kv_ring.specs.declared.message.Answer.{Answer}
@@ -85,3 +85,28 @@ pub record Holds {D I F : Type 0} (d : disks.Ghosts D) (i : indexes.Ghosts I)
       (done_pairs promise.groups.history)
   pub same : (now.store.worker ≡ first.store.worker)
       × (now.store.workers ≡ first.store.workers) × (now.store.limits ≡ first.store.limits)
+
+-- the promise goes on, with more behind its history; and at each moment between the two a crash leaves
+-- of each key the value after a prefix of its writes, which holds all that was answered before
+pub record GoesOn {D I F : Type 0} (d : disks.Ghosts D) (i : indexes.Ghosts I)
+    (start sessions : ℕ) (first old now : WorkerView D I) (ends new : Ends (Answer F) (Ask F) 8)
+    (connections after : List (Connection F)) (view later : View) (before : List Write)
+    (h : Holds d i start sessions first old ends connections view before) : Type 0 where
+  pub holds : Holds d i start sessions first now new after later before
+  pub more : List Done
+  pub longer : holds.promise.groups.history ≡ h.promise.groups.history ++ more
+  pub moments : LeavesOnly (d.calls old.store.disk.disk) (d.calls now.store.disk.disk)
+      (d.leaves old.store.disk.disk) (d.leaves now.store.disk.disk)
+      (λ image. RecoversPrefix all_classes
+      (all_writes before (done_pairs holds.promise.groups.history))
+      (before ++ writes (done_pairs h.promise.groups.history)) image first.store.worker
+      first.store.workers)
+
+-- the promise stood, and goes on so
+abbrev pub StoodAndGoesOn : {D I F : Type 0} → disks.Ghosts D → indexes.Ghosts I → ℕ → ℕ
+    → WorkerView D I → WorkerView D I → WorkerView D I → Ends (Answer F) (Ask F) 8
+    → Ends (Answer F) (Ask F) 8 → List (Connection F) → List (Connection F) → View → View
+    → List Write → Type 0
+StoodAndGoesOn d i start sessions first old now ends new connections after view later before =
+    (h : Holds d i start sessions first old ends connections view before)
+    × GoesOn d i start sessions first old now ends new connections after view later before h

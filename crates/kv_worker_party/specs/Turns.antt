@@ -1,5 +1,5 @@
 -- What a turn of a worker's party does.
-use Rattle.std.specs.Prelude.{◌≡◌, ℕ, ◌<◌, List, [], ◌∷◌, ◌++◌, length, Option, None, Some, Bool}
+use Rattle.std.specs.Prelude.{◌≡◌, ℕ, ◌<◌, ◌≤◌, List, [], ◌∷◌, ◌++◌, length, Option, None, Some, Bool}
 use Rattle.std.specs.Prelude.{true, false, ◌||◌, if◌then◌else◌, option_to_list}
 use Rattle.std.specs.List.{AllByRecursion}
 use Rattle.kv_base.specs.Reserved.{Reserved}
@@ -86,3 +86,12 @@ pub record Turns {D I F : Type 0} (d : disks.Ghosts D) (i : indexes.Ghosts I)
       (requests_in (in_hand 0 (all_tasks intakes))) replies
   pub turn_is : turn ≡ turn_of (all_ended after) (any_moved connections intakes)
   pub rings : SameRings ends new
+
+-- the worker is the same one of as many, and as long as it is open, its stamps are below what its seat
+-- has seen, which is no less than before
+pub record StaysAhead {D I : Type 0} (old now : WorkerView D I) (view later : View) : Type 0 where
+  pub worker : now.store.worker ≡ old.store.worker
+  pub workers : now.store.workers ≡ old.store.workers
+  pub start : later.start ≡ view.start
+  pub up : view.seen ≤ later.seen
+  pub ahead : now.store.closed ≡ false → now.highest < later.seen

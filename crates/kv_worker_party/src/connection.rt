@@ -1,6 +1,5 @@
-use kv_ring::{Answer, Ask, Tasks};
-
 use crate::open_task::takes_all;
+use kv_ring::{Answer, Ask, Tasks};
 
 /// Stamps are below this.
 const LIMIT: u64 = 1 << 62;

@@ -3,6 +3,7 @@
 
 mod connection;
 mod deliver;
+mod exchange;
 mod gather;
 mod hand_in;
 mod laws;

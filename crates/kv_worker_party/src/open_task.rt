@@ -53,9 +53,7 @@ fn takes_task(task: &Task, worker: u32, workers: u32) -> bool
     requires { IsWorker worker workers }
     ensures { result ≡ takes_task worker workers task.now }
 {
-    task.reply.is_none()
-        && has_good_sizes(&task.request)
-        && owns(&task.request, worker, workers)
+    task.reply.is_none() && has_good_sizes(&task.request) && owns(&task.request, worker, workers)
 }
 
 /// Whether the worker, of so many, takes each of the tasks.

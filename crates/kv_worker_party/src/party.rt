@@ -6,13 +6,10 @@ ghost use Rattle.kv_ring.specs.Ends.{peers, received_from};
 ghost use Rattle.kv_worker_party.specs.Gathering.{all_idle};
 ghost use Rattle.kv_worker_party.specs.Party.{BeginsWith, Holds};
 ghost use Rattle.kv_worker_party.specs.Taking.{connection_of, new_connection, has_bye};
-ghost use Rattle.kv_worker_party.specs.Turns.{turn_of};
 
 use crate::connection::Connection;
-use crate::deliver::{all_ended, deliver};
-use crate::gather::{gather, greatest_seen};
+use crate::exchange::exchange;
 use crate::laws::party_laws;
-use crate::serve::serve;
 use crate::turn::Turn;
 use kv_base::NoMemory;
 use kv_disk::Disk;
@@ -69,19 +66,6 @@ pub struct WorkerParty<D: Disk, I: Index, F> {
         connections.items seat.view before ∥₁ },
 }
 
-// What the turn was.
-fn turn_of(ended: bool, moved: bool) -> Turn
-    ensures { result ≡ turn_of ended moved }
-{
-    if ended {
-        Turn::Ended
-    } else if moved {
-        Turn::Moved
-    } else {
-        Turn::Idle
-    }
-}
-
 // As many connections, with nothing in hand.
 fn new_connections<F: Drop>(alloc: Global, sessions: u32) -> Result<Vec<Connection<F>>, NoMemory>
     ensures size { IfOk result (λ connections. vec_len connections ≡ sessions) }
@@ -97,10 +81,12 @@ fn new_connections<F: Drop>(alloc: Global, sessions: u32) -> Result<Vec<Connecti
 
 impl<D: Disk + Drop, I: Index + Drop, F: Drop> WorkerParty<D, I, F> {
     ghost use Rattle.std.specs.Prelude.{◌≡◌, ◌≢◌, ℕ, ◌+◌, ◌-◌, ◌<◌, ◌≤◌, ◌^◌, [], min, IfOk, IfErr};
-    ghost use Rattle.std.specs.Prelude.{false, length, vec_len};
+    ghost use Rattle.std.specs.Prelude.{false, length, vec_len, List};
+    ghost use Rattle.kv_model.specs.History.{Write};
     ghost use Rattle.kv_ring.specs.Ends.{peers, known_from, IsFresh, AreBetween, SameRings, Looked};
     ghost use Rattle.kv_ring.specs.Ends.{sent_to, received_from, HasAll, KnowsPlaces};
     ghost use Rattle.kv_stamps.specs.Steps.{Raises, Looks};
+    ghost use Rattle.kv_worker_party.specs.Party.{BeginsWith, StoodAndGoesOn};
     ghost use Rattle.kv_worker_party.specs.Taking.{new_connection};
     ghost use Rattle.kv_worker_party.specs.Turns.{Turns};
 
@@ -158,29 +144,27 @@ impl<D: Disk + Drop, I: Index + Drop, F: Drop> WorkerParty<D, I, F> {
         ensures turned { Turns ⟦<D as Disk>⟧ ⟦<I as Index>⟧ self.old.worker self.new.worker
             self.old.ends self.new.ends self.old.connections.items self.new.connections.items
             self.old.seat.view self.new.seat.view result }
+        ensures goes_on { (before : List Write) → BeginsWith ⟦<D as Disk>⟧ ⟦<I as Index>⟧
+            self.old.first.value before (self.old.seat.view.start - 1)
+            → ∥ StoodAndGoesOn ⟦<D as Disk>⟧ ⟦<I as Index>⟧ self.old.seat.view.start
+            (peers self.old.ends) self.old.first.value self.old.worker self.new.worker
+            self.old.ends self.new.ends self.old.connections.items self.new.connections.items
+            self.old.seat.view self.new.seat.view before ∥₁ }
         ensures counter { self.new.seat.counter ≡ self.old.seat.counter }
         ensures first { self.new.first.value ≡ self.old.first.value }
     {
         // By these laws the promise goes on.
         party_laws();
-        let moved = gather(
+        exchange(
+            self.alloc,
+            &mut self.worker,
+            (self.number, self.workers),
             &mut self.ends,
             &mut self.connections,
             &mut self.batch,
-            self.number,
-            self.workers,
-        );
-        let seen = greatest_seen(&self.connections);
-        serve(
-            self.alloc,
-            &mut self.worker,
             stamps,
             &mut self.seat,
-            &mut self.batch,
-            seen,
-        );
-        deliver(&mut self.ends, &mut self.connections, &mut self.batch);
-        turn_of(all_ended(&self.connections), moved)
+        )
     }
 
     /// Raises the counter to `to`, at most 2^62, with this party's seat. Takes no memory.

@@ -5,11 +5,7 @@ ghost use Rattle.kv_worker_party.specs.Traffic.{Sends};
 use kv_ring::{Answer, WorkerEnds};
 
 /// Sends the answer to the session, or hands it back where the ring has no place.
-pub fn send<F>(
-    ends: &mut WorkerEnds<F>,
-    session: u32,
-    answer: Answer<F>,
-) -> Option<Answer<F>>
+pub fn send<F>(ends: &mut WorkerEnds<F>, session: u32, answer: Answer<F>) -> Option<Answer<F>>
     requires { session < peers ends.old }
     ensures { Sends session ends.old ends.new (Some answer) result }
 {

@@ -73,8 +73,7 @@ loop-session-preserved g c =
 
 pub returns-clause-gathered : goal.returns-clause-gathered
 returns-clause-gathered g c =
-    let p = c.loop-session.invariant in
-    (
+    let p = c.loop-session.invariant in (
       p.first.intakes,
       gathers-all c.args.worker c.args.workers c.args.ends.now c.loop-session.ends
           c.args.connections.now.items c.loop-session.connections.items c.args.batch.now.items

@@ -18,23 +18,10 @@ use Rattle.kv_parties.specs.Messages.{pair_of, task_pairs}
 use Rattle.kv_parties.specs.Workers.{Done, done_pairs, done_for}
 use Rattle.kv_ring.specs.Tasks.{requests_of, replies_of}
 use Rattle.kv_ring.specs.declared.task.Task.{Task}
-use Rattle.kv_worker_party.specs.Batched.{of_session, in_hand, AreReplied}
+use Rattle.kv_groups.specs.Batched.{of_session, in_hand, AreReplied}
 use Rattle.kv_worker.specs.Batches.{AreAnswered, requests_in}
-use Rattle.kv_worker_party.specs.Delivering.{tasks_of}
-
--- the tasks of one session more
-pub in_hand-push : (from : ℕ) (groups : List (List Task)) (tasks : List Task)
-    → in_hand from (groups ++ tasks ∷ [])
-    ≡ in_hand from groups ++ of_session (from + length groups) tasks
-in_hand-push from [] tasks =
-    append-nil (of_session from tasks)
-    ∙ ap (λ n. of_session n tasks) (let e : from ≡ from + 0 = omega arith in e)
-in_hand-push from (group ∷ groups) tasks =
-    ap (λ items. of_session from group ++ items) (in_hand-push (from + 1) groups tasks)
-    ∙ sym (append_assoc (of_session from group) (in_hand (from + 1) groups)
-    (of_session (from + 1 + length groups) tasks))
-    ∙ ap (λ n. (of_session from group ++ in_hand (from + 1) groups) ++ of_session n tasks)
-    (let e : from + 1 + length groups ≡ from + suc (length groups) = omega arith in e)
+use Rattle.kv_groups.specs.Delivering.{tasks_of}
+use Rattle.kv_groups.proofs.BatchLemmas.{untag}
 
 -- what each session's tasks have, all have
 pub in_hand-all : (P : ℕ × Task → Type 0) (from : ℕ) (groups : List (List Task))
@@ -181,10 +168,6 @@ all_task_pairs answered = flat_map task_pairs answered
 pub task_pairs-append : (tasks more : List Task)
     → task_pairs (tasks ++ more) ≡ task_pairs tasks ++ task_pairs more
 task_pairs-append tasks more = filter_map-append pair_of tasks more
-
-pub untag : (session : ℕ) (tasks : List Task) → map (λ (i : ℕ × Task). i.1) (of_session session tasks) ≡ tasks
-untag session [] = refl
-untag session (task ∷ tasks) = ap (λ ts. task ∷ ts) (untag session tasks)
 
 pub in_hand-pairs : (from : ℕ) (answered : List (List Task))
     → task_pairs (map (λ item. item.1) (in_hand from answered)) ≡ all_task_pairs answered

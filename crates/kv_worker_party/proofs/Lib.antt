@@ -1,12 +1,7 @@
-pub mod TakeLemmas
+pub mod OpenLemmas
 pub mod BatchedLemmas
 pub mod StampedLemmas
 pub mod SilentLemmas
-pub mod HandLemmas
-pub mod ReceiveLemmas
-pub mod GatherLemmas
-pub mod AnsweringLemmas
-pub mod DeliverLemmas
 pub mod SeatLemmas
 pub mod KeepLemmas
 pub mod TurnLemmas

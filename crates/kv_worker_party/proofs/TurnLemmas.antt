@@ -41,16 +41,16 @@ use Rattle.kv_ring.specs.declared.message.Ask.TheVariants as ask
 use Rattle.kv_ring.specs.declared.task.Task.{Task}
 use Rattle.kv_stamps.specs.Ranges.{among}
 use Rattle.kv_stamps.specs.declared.view.View.{View}
-use Rattle.kv_worker_party.specs.declared.connection.Connection.{Connection}
+use Rattle.kv_groups.specs.declared.connection.Connection.{Connection}
 use Rattle.kv_worker_party.specs.declared.turn.Turn.{Turn}
-use Rattle.kv_worker_party.specs.Batched.{of_session, in_hand, AreReplied}
+use Rattle.kv_groups.specs.Batched.{of_session, in_hand, AreReplied}
 use Rattle.kv_worker.specs.Batches.{AreAnswered, IsOpenTask, requests_in}
-use Rattle.kv_worker_party.specs.Delivering.{tasks_of}
-use Rattle.kv_worker_party.specs.Gathering.{Intake, intake_of, taken_by, nothing, greatest}
+use Rattle.kv_groups.specs.Delivering.{tasks_of}
+use Rattle.kv_groups.specs.Gathering.{Intake, intake_of, taken_by, nothing, greatest}
 use Rattle.kv_worker_party.specs.Laws.{PartyLaws}
 use Rattle.kv_worker_party.specs.Party.{GoesOn, Holds, LeavesPrefixes, answers_to, setting_of}
-use Rattle.kv_worker_party.specs.Taking.{connection_of, group_taken, takes_group}
-use Rattle.kv_worker_party.specs.Traffic.{traffic_with}
+use Rattle.kv_groups.specs.Taking.{connection_of, group_taken, takes_group}
+use Rattle.kv_groups.specs.Traffic.{traffic_with}
 use Rattle.kv_worker_party.specs.Turns.{Exchanges, Turns, answer_to, asked_seen, asked_seens, asked_tasks}
 use Rattle.kv_worker.specs.Worker.{WorkerView, start_of}
 use Rattle.kv_worker_party.proofs.BatchedLemmas.{in_hand-all}
@@ -60,7 +60,8 @@ use Rattle.kv_worker_party.proofs.BatchedLemmas.{done_pairs-append, done_for-app
 use Rattle.kv_worker_party.proofs.BatchedLemmas.{done-below, stamps-append, stamps-at, rising-at}
 use Rattle.kv_worker_party.proofs.KeepLemmas.{Keeps, Adds, served-keeps, served-leaves}
 use Rattle.kv_worker_party.proofs.StampedLemmas.{HasStamp, stamps-all}
-use Rattle.kv_worker_party.proofs.TakeLemmas.{all-open, is-taken}
+use Rattle.kv_groups.proofs.TakeLemmas.{is-taken}
+use Rattle.kv_worker_party.proofs.OpenLemmas.{all-open}
 
 -- what is left of two lists, one behind the other
 part-skip : {X : Type 0} (xs ys : List X) (y : X) → IsPartOf xs ys → IsPartOf xs (y ∷ ys)

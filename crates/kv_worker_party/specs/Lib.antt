@@ -1,8 +1,3 @@
-pub mod Batched
-pub mod Traffic
-pub mod Taking
-pub mod Gathering
-pub mod Delivering
 pub mod Serving
 pub mod Turns
 pub mod Laws

@@ -21,8 +21,8 @@ use Rattle.kv_ring.specs.declared.ends.Ends.{Ends}
 use Rattle.kv_ring.specs.declared.message.Answer.{Answer}
 use Rattle.kv_ring.specs.declared.message.Ask.{Ask}
 use Rattle.kv_stamps.specs.declared.view.View.{View}
-use Rattle.kv_worker_party.specs.declared.connection.Connection.{Connection}
-use Rattle.kv_worker_party.specs.Taking.{connection_of}
+use Rattle.kv_groups.specs.declared.connection.Connection.{Connection}
+use Rattle.kv_groups.specs.Taking.{connection_of}
 use Rattle.kv_worker.specs.Worker.{WorkerView, start_of}
 
 -- the answers that were sent to the session, and the one that waits to be sent

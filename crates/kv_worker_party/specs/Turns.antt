@@ -14,16 +14,16 @@ use Rattle.kv_ring.specs.declared.message.Answer.TheVariants.{Group}
 use Rattle.kv_ring.specs.declared.message.Ask.{Ask}
 use Rattle.kv_ring.specs.declared.task.Task.{Task}
 use Rattle.kv_stamps.specs.declared.view.View.{View}
-use Rattle.kv_worker_party.specs.declared.connection.Connection.{Connection}
+use Rattle.kv_groups.specs.declared.connection.Connection.{Connection}
 use Rattle.kv_worker_party.specs.declared.turn.Turn.{Turn}
 use Rattle.kv_worker_party.specs.declared.turn.Turn.TheVariants.{Moved, Idle, Ended}
-use Rattle.kv_worker_party.specs.Batched.{in_hand, AreReplied}
+use Rattle.kv_groups.specs.Batched.{in_hand, AreReplied}
 use Rattle.kv_worker.specs.Batches.{AreAnswered, requests_in}
-use Rattle.kv_worker_party.specs.Delivering.{tasks_of, all_ended}
-use Rattle.kv_worker_party.specs.Gathering.{Intake, all_tasks, intake_of, taken_by, any_moved, greatest}
+use Rattle.kv_groups.specs.Delivering.{tasks_of, all_ended}
+use Rattle.kv_groups.specs.Gathering.{Intake, all_tasks, intake_of, taken_by, any_moved, greatest}
 use Rattle.kv_worker_party.specs.Serving.{HasServed}
-use Rattle.kv_worker_party.specs.Taking.{connection_of, is_bye}
-use Rattle.kv_worker_party.specs.Traffic.{Traffic, traffic_with}
+use Rattle.kv_groups.specs.Taking.{connection_of, is_bye}
+use Rattle.kv_groups.specs.Traffic.{Traffic, traffic_with}
 use Rattle.kv_worker.specs.Worker.{WorkerView}
 
 -- the tasks of the group that is taken, if one is

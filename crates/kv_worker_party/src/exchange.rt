@@ -1,15 +1,13 @@
 ghost use Rattle.std.specs.Prelude.{◌≡◌, ◌<◌, ◌≤◌, [], length, vec_len, false, true};
 ghost use Rattle.kv_model.specs.Head.{IsWorker};
 ghost use Rattle.kv_ring.specs.Ends.{peers};
-ghost use Rattle.kv_worker_party.specs.Gathering.{all_idle};
+ghost use Rattle.kv_groups.specs.Gathering.{all_idle};
 ghost use Rattle.kv_worker_party.specs.Turns.{Turns, StaysAhead, turn_of};
 
-use crate::connection::Connection;
-use crate::deliver::{all_ended, deliver};
-use crate::gather::{gather, greatest_seen};
 use crate::serve::serve;
 use crate::turn::Turn;
 use kv_disk::Disk;
+use kv_groups::{Connection, all_ended, deliver, gather, greatest_seen};
 use kv_index::Index;
 use kv_ring::WorkerEnds;
 use kv_stamps::{StampSeat, Stamps};

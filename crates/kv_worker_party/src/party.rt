@@ -3,16 +3,16 @@ ghost use Rattle.std.specs.Prelude.{false, IfOk};
 ghost use Rattle.kv_model.specs.Head.{IsWorker};
 ghost use Rattle.kv_model.specs.History.{Write};
 ghost use Rattle.kv_ring.specs.Ends.{peers, received_from};
-ghost use Rattle.kv_worker_party.specs.Gathering.{all_idle};
+ghost use Rattle.kv_groups.specs.Gathering.{all_idle};
 ghost use Rattle.kv_worker_party.specs.Party.{BeginsWith, Holds};
-ghost use Rattle.kv_worker_party.specs.Taking.{connection_of, new_connection, has_bye};
+ghost use Rattle.kv_groups.specs.Taking.{connection_of, new_connection, has_bye};
 
-use crate::connection::Connection;
 use crate::exchange::exchange;
 use crate::laws::party_laws;
 use crate::turn::Turn;
 use kv_base::NoMemory;
 use kv_disk::Disk;
+use kv_groups::Connection;
 use kv_index::Index;
 use kv_ring::{SessionEnds, WorkerEnds, left_between};
 use kv_stamps::{StampSeat, Stamps};
@@ -87,7 +87,7 @@ impl<D: Disk + Drop, I: Index + Drop, F: Drop> WorkerParty<D, I, F> {
     ghost use Rattle.kv_ring.specs.Ends.{sent_to, received_from, HasAll, KnowsPlaces};
     ghost use Rattle.kv_stamps.specs.Steps.{Raises, Looks};
     ghost use Rattle.kv_worker_party.specs.Party.{BeginsWith, StoodAndGoesOn};
-    ghost use Rattle.kv_worker_party.specs.Taking.{new_connection};
+    ghost use Rattle.kv_groups.specs.Taking.{new_connection};
     ghost use Rattle.kv_worker_party.specs.Turns.{Turns};
 
     /// Joins the parts, and takes the room of a batch; want of memory hands them back. The worker

@@ -3,8 +3,8 @@ use Rattle.std.proofs.Common.{◌≡◌, ◌+◌, ◌-◌, ◌*◌, ◌<◌, ◌
 use Rattle.std.proofs.Common.{refl, sym, ap, subst, subst₂, ◌∙◌, false}
 use Rattle.kv_ring.specs.declared.task.Task.{Task}
 use Rattle.kv_worker.specs.Batches.{AreAnswered, requests_in}
-use Rattle.kv_worker_party.specs.Batched.{in_hand}
-use Rattle.kv_worker_party.specs.Gathering.{all_tasks}
+use Rattle.kv_groups.specs.Batched.{in_hand}
+use Rattle.kv_groups.specs.Gathering.{all_tasks}
 use Rattle.kv_worker_party.specs.Serving.{HasServed}
 use Rattle.kv_worker_party.specs.Turns.{turn_of}
 use Rattle.kv_worker_party.proofs.PartyLemmas.{idle-from, idle-to, gathered-open, gathered-low}

@@ -1,6 +1,6 @@
 -- nothing is in hand of those so far
 use Rattle.std.proofs.Common.{◌≡◌, ℕ, vec_len}
-use Rattle.kv_worker_party.specs.Taking.{connection_of, new_connection}
+use Rattle.kv_groups.specs.Taking.{connection_of, new_connection}
 use Rattle.kv_worker_party.proofs.party.new_connections.Given as goal
 
 abbrev pub invariant-loop-made : goal.invariant-loop-made

@@ -1,6 +1,6 @@
 -- nothing is sent or received
 use Rattle.std.proofs.Common.{arith, ap, sym, ◌∙◌}
-use Rattle.kv_worker_party.specs.Taking.{has_bye}
+use Rattle.kv_groups.specs.Taking.{has_bye}
 use Rattle.kv_worker_party.proofs.PartyLemmas.{looked-promise}
 use Rattle.kv_worker_party.proofs.party.WorkerParty.left_between.Goals as goal
 

@@ -1,0 +1,5 @@
+pub mod Batched
+pub mod Taking
+pub mod Traffic
+pub mod Gathering
+pub mod Delivering

@@ -30,6 +30,19 @@ only-here n xs = ap (λ b. cond b xs []) (eq_self n)
 only-there : {X : Type 0} (n other : ℕ) (xs : List X) → other ≢ n → only_at n other xs ≡ []
 only-there n other xs ne = ap (λ b. cond b xs []) (eq_not other n ne)
 
+or-false : (b : Bool) → b ≡ (b || false)
+or-false true = refl
+or-false false = refl
+
+or-true : (b : Bool) → true ≡ (b || true)
+or-true true = refl
+or-true false = refl
+
+emptied-none : (was now : Option (Reserved Task)) → was ≡ None → IsEmptied was now → now ≡ None
+emptied-none None None e h = refl
+emptied-none None (Some now) e h = absurd h
+emptied-none (Some was) now e h = absurd (cc)
+
 module _ {F : Type 0} where
   same-traffic : (ends new : Ends (Answer F) (Ask F) 8) (s : ℕ)
       → received_from new s ≡ received_from ends s → sent_to new s ≡ sent_to ends s
@@ -127,14 +140,6 @@ module _ {F : Type 0} where
   after-waiting worker workers c (Some Drop) = refl
   after-waiting worker workers c (Some Bye) = refl
 
-  or-false : (b : Bool) → b ≡ (b || false)
-  or-false true = refl
-  or-false false = refl
-
-  or-true : (b : Bool) → true ≡ (b || true)
-  or-true true = refl
-  or-true false = refl
-
   after-gone : (worker workers : ℕ) (c : Connection F) (came : Option (Ask F))
       → (after_came worker workers c came).gone ≡ (c.gone || is_bye came)
   after-gone worker workers c None = or-false c.gone
@@ -148,11 +153,6 @@ module _ {F : Type 0} where
   after-gone worker workers c (Some (Start stamp)) = or-false c.gone
   after-gone worker workers c (Some Drop) = or-false c.gone
   after-gone worker workers c (Some Bye) = or-true c.gone
-
-  emptied-none : (was now : Option (Reserved Task)) → was ≡ None → IsEmptied was now → now ≡ None
-  emptied-none None None e h = refl
-  emptied-none None (Some now) e h = absurd h
-  emptied-none (Some was) now e h = absurd (cc)
 
   no-hand : (c now : Connection F) → c.group ≡ None → IsEmptied c.group now.group
       → IsInHand None now (tasks_in c.group)

@@ -1,4 +1,4 @@
-ghost use Rattle.std.specs.Prelude.{◌≡◌, ◌≢◌, ℕ, ◌+◌, ◌*◌, ◌<◌, ◌≤◌, ◌++◌, List, None, length, map, vec_len};
+ghost use Rattle.std.specs.Prelude.{◌≡◌, ◌≢◌, ℕ, ◌+◌, ◌*◌, ◌<◌, ◌≤◌, ◌++◌, ◌||◌, List, None, length, map, vec_len};
 ghost use Rattle.kv_model.specs.Head.{IsWorker};
 ghost use Rattle.kv_ring.specs.Ends.{peers, SameRings};
 ghost use Rattle.kv_groups.specs.declared.connection.Connection.{Connection as ConnectionOf};
@@ -10,6 +10,13 @@ use crate::connection::Connection;
 use crate::hand_in::{Batch, hand_in};
 use crate::send::send_waiting;
 use kv_ring::WorkerEnds;
+
+// Whether one of the two is so.
+fn either(first: bool, second: bool) -> bool
+    ensures { result ≡ (first || second) }
+{
+    first || second
+}
 
 /// Takes the session's next message, if one is known of. The answer is whether one was.
 fn receive<F: Drop>(
@@ -61,7 +68,7 @@ fn gather_from<F: Drop>(
     send_waiting(ends, session, &mut connection.waiting);
     let came = receive(ends, connection, session, worker, workers);
     hand_in(&mut connection.group, session, batch);
-    waited || came
+    either(waited, came)
 }
 
 /// Sends the answers that wait, takes the next message of each session, and moves the tasks of all
@@ -89,7 +96,7 @@ pub fn gather<F: Drop>(
     for session in 0..ends.peers() {
         let connection = &mut connections[session as usize];
         let found = gather_from(ends, connection, session, batch, worker, workers);
-        moved = moved || found;
+        moved = either(moved, found);
     }
     moved
 }

@@ -8,7 +8,7 @@ use Rattle.kv_groups.proofs.delivering.deliver.Goals as goal
 
 pub deliver_to-requires-clause-session : goal.deliver_to-requires-clause-session
 deliver_to-requires-clause-session g c =
-    omega (arith, c.loop-session.invariant.rings.peers, c.peers-session-end.ensures)
+    omega (arith, c.loop-session.invariant.rings.peers, c.peers-session.ensures)
 
 pub deliver_to-requires-clause-free : goal.deliver_to-requires-clause-free
 deliver_to-requires-clause-free g c =
@@ -19,7 +19,7 @@ deliver_to-requires-clause-free g c =
     (omega (
       arith,
       c.loop-session.invariant.size,
-      c.peers-session-end.ensures,
+      c.peers-session.ensures,
       c.requires.size,
       c.args.connections.now.ok,
     )) c.index_mut.ensures.value
@@ -33,7 +33,7 @@ deliver_to-requires-clause-some g c =
     (c.loop-session.session - 1) c.index_mut.result.now back.1
     (subst (DeliversFrom c.args.ends.now c.loop-session.ends c.args.connections.now.items
     c.loop-session.connections.items back.0 c.loop-session.batch.items) e
-    (c.loop-session.invariant.from back.0 back.1)) (omega (arith, c.peers-session-end.ensures, c.requires.size, c.args.connections.now.ok))
+    (c.loop-session.invariant.from back.0 back.1)) (omega (arith, c.peers-session.ensures, c.requires.size, c.args.connections.now.ok))
     c.loop-session.invariant.size c.index_mut.ensures.value
 
 pub loop-session-init : goal.loop-session-init
@@ -43,7 +43,7 @@ loop-session-init g c = record {
   room = omega arith;
   from = λ groups back. delivers-none c.args.ends.now c.args.connections.now.items groups
       c.args.batch.now.items _ back
-      (omega (arith, c.peers-session-end.ensures, c.requires.size, c.args.connections.now.ok));
+      (omega (arith, c.peers-session.ensures, c.requires.size, c.args.connections.now.ok));
 }
 
 pub loop-session-preserved : goal.loop-session-preserved
@@ -65,7 +65,7 @@ loop-session-preserved g c =
             c.deliver_to.new.batch.items (c.loop-session.session - 1) c.index_mut.result.now back.1
             (subst (DeliversFrom c.args.ends.now c.loop-session.ends c.args.connections.now.items
             c.loop-session.connections.items back.0 c.loop-session.batch.items) e (p.from back.0 back.1))
-            (omega (arith, c.peers-session-end.ensures, c.requires.size, c.args.connections.now.ok)) p.size c.index_mut.ensures.value
+            (omega (arith, c.peers-session.ensures, c.requires.size, c.args.connections.now.ok)) p.size c.index_mut.ensures.value
             (λ front tasks is many. (c.deliver_to.ensures.delivered front tasks is many).0),
       );
       from = λ groups is_back. delivers-more c.args.ends.now c.loop-session.ends
@@ -74,7 +74,7 @@ loop-session-preserved g c =
           (c.loop-session.session - 1) c.index_mut.result.now c.deliver_to.new.connection is_back
           (subst (DeliversFrom c.args.ends.now c.loop-session.ends c.args.connections.now.items
           c.loop-session.connections.items groups c.loop-session.batch.items) e (p.from groups is_back))
-          (omega (arith, c.peers-session-end.ensures, c.requires.size, c.args.connections.now.ok)) p.size c.index_mut.ensures.value c.deliver_to.ensures.delivered
+          (omega (arith, c.peers-session.ensures, c.requires.size, c.args.connections.now.ok)) p.size c.index_mut.ensures.value c.deliver_to.ensures.delivered
           c.deliver_to.ensures.others;
     }
 

@@ -1,7 +1,7 @@
 -- one session more
-use Rattle.std.proofs.Common.{◌≡◌, ◌+◌, ◌*◌, ◌<◌, ◌≤◌, ℕ, arith, sym, ap, ◌∙◌, length, length-append}
+use Rattle.std.proofs.Common.{◌≡◌, ◌+◌, ◌*◌, ◌<◌, ◌≤◌, ℕ, arith, sym, ap, subst, set, ◌∙◌, length, length-append}
 use Rattle.kv_groups.specs.Batched.{of_session, in_hand}
-use Rattle.kv_groups.proofs.GatherLemmas.{gathers-none, gathers-more, gathers-all, session-idle}
+use Rattle.kv_groups.proofs.GatherLemmas.{GathersFirst, gathers-none, gathers-more, gathers-all, session-idle}
 use Rattle.kv_groups.proofs.GatherLemmas.{of_session-length}
 use Rattle.kv_groups.proofs.gathering.gather.Goals as goal
 
@@ -41,7 +41,12 @@ loop-session-preserved g c =
     let p = c.loop-session.invariant in
     let step = c.gather_from-found.ensures.gathered in
     record {
-      first = gathers-more c.args.worker c.args.workers c.args.ends.now c.loop-session.ends
+      first = subst (GathersFirst c.args.worker c.args.workers c.args.ends.now
+          c.gather_from-found.new.ends c.args.connections.now.items
+          (set c.loop-session.connections.items c.loop-session.session
+          c.gather_from-found.new.connection) c.args.batch.now.items
+          c.gather_from-found.new.batch.items (c.loop-session.session + 1))
+          (sym c.either.ensures) (gathers-more c.args.worker c.args.workers c.args.ends.now c.loop-session.ends
           c.gather_from-found.new.ends c.args.connections.now.items c.loop-session.connections.items
           c.args.batch.now.items c.loop-session.batch.items c.gather_from-found.new.batch.items
           c.loop-session.session c.index_mut-connection.result.now c.gather_from-found.new.connection c.loop-session.moved
@@ -52,7 +57,7 @@ loop-session-preserved g c =
             c.requires.size,
             c.args.connections.now.ok,
           )) c.index_mut-connection.ensures.value step.1
-          step.3 step.2 c.gather_from-found.ensures.others c.gather_from-found.ensures.rings;
+          step.3 step.2 c.gather_from-found.ensures.others c.gather_from-found.ensures.rings);
       room = omega (
         arith,
         p.room,

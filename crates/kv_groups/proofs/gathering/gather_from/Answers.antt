@@ -28,7 +28,7 @@ returns-clause-gathered g c =
           c.send_waiting.new.ends c.receive-came.new.ends old between got now
           c.receive-came.result c.send_waiting.ensures c.requires.idle refl refl r refl refl refl
           c.hand_in.ensures.emptied,
-      ap (λ b. b || c.receive-came.result) c.is_some-waited.ensures
+      c.either.ensures ∙ ap (λ b. b || c.receive-came.result) c.is_some-waited.ensures
           ∙ ap (λ b. is_some old.waiting || b) r.found_is,
       c.hand_in.ensures.batch,
       c.hand_in.ensures.spare,

@@ -46,7 +46,7 @@ loop-session-preserved g c =
           (set c.loop-session.connections.items c.loop-session.session
           c.gather_from-found.new.connection) c.args.batch.now.items
           c.gather_from-found.new.batch.items (c.loop-session.session + 1))
-          (sym c.either.ensures) (gathers-more c.args.worker c.args.workers c.args.ends.now c.loop-session.ends
+          (sym c.either-moved.ensures) (gathers-more c.args.worker c.args.workers c.args.ends.now c.loop-session.ends
           c.gather_from-found.new.ends c.args.connections.now.items c.loop-session.connections.items
           c.args.batch.now.items c.loop-session.batch.items c.gather_from-found.new.batch.items
           c.loop-session.session c.index_mut-connection.result.now c.gather_from-found.new.connection c.loop-session.moved

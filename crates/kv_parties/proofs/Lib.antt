@@ -6,5 +6,9 @@ mod Rings
 mod Parts
 mod Coming
 mod Joining
-mod Recovering
 mod Beginning
+mod Recovering
+mod Meeting
+mod Causing
+mod Standing
+mod Propositions

@@ -28,7 +28,7 @@ use Rattle.kv_parties.proofs.Agreeing.{written-is, acknowledged-is, stamp-tells,
 use Rattle.kv_parties.proofs.Agreeing.{owner-of, Owns, Fits, one, from_worker, stamp_above}
 
 -- the write is one of the pair's
-abbrev IsOf : Pair → Write → Type 0
+abbrev pub IsOf : Pair → Write → Type 0
 IsOf pair x = (acknowledged pair ≡ Some x) ⊎ (unsure_by pair.request pair.reply ≡ Some x)
 
 unsure_by-is : (request : Request) (reply : Reply) (w : Write) → unsure_by request reply ≡ Some w
@@ -37,7 +37,7 @@ unsure_by-is request (Unsure t) w e =
     let is = written-is request t w e in (ap Some (sym is.0), is.1)
 unsure_by-is request reply w e = absurd (cc)
 
-of-is : (pair : Pair) (w : Write) → IsOf pair w
+pub of-is : (pair : Pair) (w : Write) → IsOf pair w
     → (stamp_of pair.reply ≡ Some w.stamp) × (key_of pair.request ≡ Some w.key)
 of-is pair w (inl e) = acknowledged-is pair w e
 of-is pair w (inr e) = unsure_by-is pair.request pair.reply w e
@@ -55,17 +55,17 @@ of-one pair v u (inr e) (inl f) = sym (never-both pair.request pair.reply u v f 
 of-one pair v u (inr e) (inr f) = from_some v u (sym e ∙ f)
 
 -- the writes of the pairs, acknowledged and unsure
-abbrev left_by : List Pair → List Write
+abbrev pub left_by : List Pair → List Write
 left_by pairs = writes pairs ++ unsure_writes pairs
 
-left-In : (x : Write) (p : Pair) (pairs : List Pair) → IsOf p x → In p pairs → In x (left_by pairs)
+pub left-In : (x : Write) (p : Pair) (pairs : List Pair) → IsOf p x → In p pairs → In x (left_by pairs)
 left-In x p pairs (inl e) i =
     In-left x (writes pairs) (unsure_writes pairs) (In-filter_map acknowledged p x pairs e i)
 left-In x p pairs (inr e) i =
     In-right x (writes pairs) (unsure_writes pairs)
     (In-filter_map (λ (q : Pair). unsure_by q.request q.reply) p x pairs e i)
 
-In-left_by : (x : Write) (pairs : List Pair) → In x (left_by pairs) → (p : Pair) × IsOf p x × In p
+pub In-left_by : (x : Write) (pairs : List Pair) → In x (left_by pairs) → (p : Pair) × IsOf p x × In p
     pairs
 In-left_by x pairs i = ⊎_elim
     (λ (a : In x (writes pairs)).

@@ -2,7 +2,7 @@
 use Rattle.std.specs.Prelude.{◌≡◌, ◌≢◌, ℕ, ◌-◌, ◌*◌, ◌^◌, ◌<◌, ◌≤◌, List, [], ◌∷◌, ◌++◌, length, ⊤}
 use Rattle.std.specs.Prelude.{Bool, true, false, ◌||◌, Some, IsTrue, Contains, MatchOption}
 use Rattle.std.specs.Prelude.{count_by, if◌then◌else◌}
-use Rattle.std.specs.List.{AllByRecursion}
+use Rattle.std.specs.List.{AllByRecursion, list_any}
 use Rattle.kv_base.specs.Calls.{next_count}
 use Rattle.kv_base.specs.declared.reply.Reply.{Reply}
 use Rattle.kv_base.specs.declared.reply.Reply.TheVariants.{Stored, Found, Missing, Removed, Absent}
@@ -55,13 +55,11 @@ is_fault (Malformed offset) = false
 
 -- whether a reply says that a write may be on disk or not
 abbrev pub any_unsure : List Pair → Bool
-any_unsure [] = false
-any_unsure (pair ∷ pairs) = is_unsure pair.reply || any_unsure pairs
+any_unsure pairs = list_any (λ pair. is_unsure pair.reply) pairs
 
 -- whether a reply tells of a fault of the disk
 abbrev pub any_fault : List Pair → Bool
-any_fault [] = false
-any_fault (pair ∷ pairs) = is_fault pair.reply || any_fault pairs
+any_fault pairs = list_any (λ pair. is_fault pair.reply) pairs
 
 -- how many replies say that a write may be on disk or not
 abbrev pub count_unsure : List Pair → ℕ

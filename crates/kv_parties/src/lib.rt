@@ -3,4 +3,4 @@
 
 mod laws;
 
-pub use laws::{kept_items_begin, owes_none, promises_end, promises_join, recovery_joins};
+pub use laws::{kept_items_begin, owes_none, promises_end, promises_join, stands_once};

@@ -60,4 +60,3 @@ pub all-open : (worker workers session : ℕ) (tasks : List Task)
 all-open worker workers session tasks e =
     each-open worker workers session tasks
     (and_parts (nat_le (length tasks) 64) (takes_each worker workers tasks) e).1
-

@@ -64,14 +64,25 @@ use Rattle.kv_worker_party.proofs.TurnLemmas.{open-asked, tasks-at}
 decide : (m n : ℕ) → (m < n) ⊎ (n ≤ m)
 decide m n = grind arith
 
+tasks-past : (groups : List (List Task)) (s : ℕ) → length groups ≤ s → tasks_of groups s ≡ []
+tasks-past groups s le = get_or_past groups s [] le
+
+-- a group in hand
+emptied-size : (group : Reserved Task) (now : Option (Reserved Task)) → IsEmptied (Some group) now
+    → length (tasks_in now) ≡ length group.items
+emptied-size group None e = absurd e
+emptied-size group (Some now) e = e.0
+
+emptied-seen : (group : Reserved Task) (now : Option (Reserved Task)) (n : ℕ)
+    → IsEmptied (Some group) now → cond (is_some now) n 0 ≡ n
+emptied-seen group None n e = absurd e
+emptied-seen group (Some now) n e = refl
+
 module _ {F : Type 0} where
   -- what is in hand past the last session
   past : (connections : List (Connection F)) (s : ℕ) → length connections ≤ s
       → connection_of connections s ≡ new_connection
   past connections s le = get_or_past connections s new_connection le
-
-  tasks-past : (groups : List (List Task)) (s : ℕ) → length groups ≤ s → tasks_of groups s ≡ []
-  tasks-past groups s le = get_or_past groups s [] le
 
   -- no group is in hand
   pub idle-from : (connections : List (Connection F)) → all_idle connections ≡ true
@@ -94,23 +105,12 @@ module _ {F : Type 0} where
       ap (λ o. not (is_some o) && all_idle connections) (each 0 (omega arith))
       ∙ idle-to connections (λ s lt. each (suc s) (omega (arith, lt)))
 
-  -- a group in hand
-  emptied-size : (group : Reserved Task) (now : Option (Reserved Task)) → IsEmptied (Some group) now
-      → length (tasks_in now) ≡ length group.items
-  emptied-size group None e = absurd e
-  emptied-size group (Some now) e = e.0
-
   emptied-answer : (group : Reserved Task) (now : Option (Reserved Task)) (tasks : List Task)
       → IsEmptied (Some group) now → answer_of {F = F} now tasks
       ≡ answer.Group (record { items = tasks; spare = group.spare }) ∷ []
   emptied-answer group None tasks e = absurd e
   emptied-answer group (Some now) tasks e =
       ap (λ n. answer.Group (record { items = tasks; spare = n }) ∷ []) e.1
-
-  emptied-seen : (group : Reserved Task) (now : Option (Reserved Task)) (n : ℕ)
-      → IsEmptied (Some group) now → cond (is_some now) n 0 ≡ n
-  emptied-seen group None n e = absurd e
-  emptied-seen group (Some now) n e = refl
 
   hand-size : (o : Option (ℕ × Reserved Task)) (c : Connection F) (tasks : List Task)
       → IsInHand o c tasks → length (tasks_in c.group) ≡ length tasks

@@ -121,42 +121,6 @@ module _ {F : Type 0} where
   came-part worker workers waits (Some ask.Drop) = tt
   came-part worker workers waits (Some ask.Bye) = tt
 
-  answer-length : (group : Option (ℕ × Reserved Task)) (tasks : List Task)
-      → length (answer_to {F = F} group tasks) ≡ length (message_of group)
-  answer-length None tasks = refl
-  answer-length (Some group) tasks = refl
-
-  answer-groups : (group : Option (ℕ × Reserved Task)) (tasks : List Task)
-      → length (answered_in (answer_to {F = F} group tasks))
-      ≡ length (groups_in (message_of group))
-  answer-groups None tasks = refl
-  answer-groups (Some group) tasks = refl
-
-  -- the pairs of the answer
-  answer-pairs : (group : Option (ℕ × Reserved Task)) (tasks : List Task)
-      → length tasks ≡ length (asked_tasks group)
-      → pairs_in (answered_in (answer_to {F = F} group tasks)) ≡ task_pairs tasks
-  answer-pairs None [] many = refl
-  answer-pairs None (task ∷ tasks) many = absurd (omega (arith, many))
-  answer-pairs (Some group) tasks many = append-nil (task_pairs tasks)
-
-  -- the answer answers the group
-  answer-answers : (group : Option (ℕ × Reserved Task)) (tasks : List Task) (seen : ℕ)
-      → AreReplied (asked_tasks group) tasks → asked_seen group ≤ seen
-      → AllByRecursion (λ stamp. seen < stamp) (stamps (task_pairs tasks))
-      → Pairwise ◌<◌ (stamps (task_pairs tasks))
-      → Answers (groups_in (message_of group)) (answered_in (answer_to {F = F} group tasks))
-  answer-answers None tasks seen answered low above rising = tt
-  answer-answers (Some group) tasks seen answered low above rising = (
-    record {
-      same = answered-requests tasks answered.replies answered.replies_are ∙ answered.requests;
-      later = All-map (λ stamp. seen < stamp) (λ stamp. group.0 < stamp)
-          (stamps (task_pairs tasks)) (λ stamp lt. omega (arith, lt, low)) above;
-      rising = rising;
-    },
-    tt,
-  )
-
   pub open-asked : (worker workers session : ℕ) (waits : Bool) (came : Option (Ask F))
       → AllByRecursion (IsOpenTask worker workers)
       (of_session session (asked_tasks (group_taken worker workers waits came)))
@@ -180,6 +144,42 @@ module _ {F : Type 0} where
   tasks-at [] k = refl
   tasks-at (intake ∷ intakes) zero = refl
   tasks-at (intake ∷ intakes) (suc k) = tasks-at intakes k
+
+answer-length : (F : Type 0) (group : Option (ℕ × Reserved Task)) (tasks : List Task)
+    → length (answer_to {F = F} group tasks) ≡ length (message_of {F = F} group)
+answer-length F None tasks = refl
+answer-length F (Some group) tasks = refl
+
+answer-groups : (F : Type 0) (group : Option (ℕ × Reserved Task)) (tasks : List Task)
+    → length (answered_in (answer_to {F = F} group tasks))
+    ≡ length (groups_in (message_of {F = F} group))
+answer-groups F None tasks = refl
+answer-groups F (Some group) tasks = refl
+
+-- the pairs of the answer
+answer-pairs : (F : Type 0) (group : Option (ℕ × Reserved Task)) (tasks : List Task)
+    → length tasks ≡ length (asked_tasks group)
+    → pairs_in (answered_in (answer_to {F = F} group tasks)) ≡ task_pairs tasks
+answer-pairs F None [] many = refl
+answer-pairs F None (task ∷ tasks) many = absurd (omega (arith, many))
+answer-pairs F (Some group) tasks many = append-nil (task_pairs tasks)
+
+-- the answer answers the group
+answer-answers : (F : Type 0) (group : Option (ℕ × Reserved Task)) (tasks : List Task) (seen : ℕ)
+    → AreReplied (asked_tasks group) tasks → asked_seen group ≤ seen
+    → AllByRecursion (λ stamp. seen < stamp) (stamps (task_pairs tasks))
+    → Pairwise ◌<◌ (stamps (task_pairs tasks))
+    → Answers (groups_in (message_of {F = F} group)) (answered_in (answer_to {F = F} group tasks))
+answer-answers F None tasks seen answered low above rising = tt
+answer-answers F (Some group) tasks seen answered low above rising = (
+  record {
+    same = answered-requests tasks answered.replies answered.replies_are ∙ answered.requests;
+    later = All-map (λ stamp. seen < stamp) (λ stamp. group.0 < stamp)
+        (stamps (task_pairs tasks)) (λ stamp lt. omega (arith, lt, low)) above;
+    rising = rising;
+  },
+  tt,
+)
 
 seen-at : {F : Type 0} (worker workers : ℕ) (intakes : List (Intake F)) (s : ℕ)
     → s < length intakes → asked_seen (taken_by worker workers (intake_of intakes s))
@@ -304,7 +304,7 @@ holds-turn {D = D} {I = I} {F = F} laws d i start sessions first old now ends ne
           ∙ length-append (answers_to ends connections s)
           (reply s) in
           let b = length-append (h.promise.taken s) (message s) in
-          let c = answer-length {F = F} (more s) (tasks_of t.answered s) in
+          let c = answer-length F (more s) (tasks_of t.answered s) in
           let e = h.promise.few s lt in
           omega (arith, a, b, c, e);
       groups = record {
@@ -337,7 +337,7 @@ holds-turn {D = D} {I = I} {F = F} laws d i start sessions first old now ends ne
             ∙ ap (λ ps. ps ++ pairs_in (answered_in (reply s)))
             (h.promise.groups.parts s lt)
             ∙ ap (λ ps. done_for s history ++ ps)
-            (answer-pairs {F = F} (more s) (tasks_of t.answered s) (many_at s lt)
+            (answer-pairs F (more s) (tasks_of t.answered s) (many_at s lt)
             ∙ sym (done_for-all 0 s t.answered s (let e : s ≡ 0 + s = omega arith in e)))
             ∙ sym (done_for-append s history fresh);
         order = λ s lt. subst₂ Answers (sym (taken_more s)) (sym (answered_more s lt))
@@ -345,7 +345,7 @@ holds-turn {D = D} {I = I} {F = F} laws d i start sessions first old now ends ne
             (answered_in (answers_to ends connections s))
             (answered_in (reply s))
             (h.promise.groups.order s lt) (h.whole s lt)
-            (answer-answers {F = F} (more s) (tasks_of t.answered s) t.seen (at s lt)
+            (answer-answers F (more s) (tasks_of t.answered s) t.seen (at s lt)
             (seen_low s lt)
             (stamps-at (λ stamp. t.seen < stamp) t.answered s all_above)
             (rising-at t.answered s all_rising)));
@@ -359,7 +359,7 @@ holds-turn {D = D} {I = I} {F = F} laws d i start sessions first old now ends ne
           (answered_in (reply s)) in
           let b = ap length (taken_more s)
           ∙ length-append (groups_in (h.promise.taken s)) (groups_in (message s)) in
-          let c = answer-groups {F = F} (more s) (tasks_of t.answered s) in
+          let c = answer-groups F (more s) (tasks_of t.answered s) in
           let e = h.whole s lt in
           omega (arith, a, b, c, e);
       low = subst (AllByRecursion (HasStamp (λ stamp. stamp < later.seen))) all_is r.0.below;

@@ -14,18 +14,27 @@ use std::alloc::Global;
 use std::test::Fail;
 
 const PUT: u8 = 1;
+
 const GET: u8 = 2;
+
 const DELETE: u8 = 3;
 
 const MOVED: u8 = 1;
+
 const IDLE: u8 = 2;
+
 const ENDED: u8 = 3;
 
 const STORED: u8 = 1;
+
 const FOUND: u8 = 2;
+
 const MISSING: u8 = 3;
+
 const CLOSED: u8 = 4;
+
 const UNSURE: u8 = 5;
+
 const OTHER: u8 = 9;
 
 // The worker 0 of 1 as a party, and the ends of its sessions.
@@ -37,10 +46,7 @@ struct Bench {
     ghost one: { All (λ ends. peers ends ≡ 1) sessions.items },
 }
 
-fn worker_over(
-    alloc: Global,
-    failing: &[u32],
-) -> Result<Worker<MemDisk, FlatIndex>, Fail> {
+fn worker_over(alloc: Global, failing: &[u32]) -> Result<Worker<MemDisk, FlatIndex>, Fail> {
     let disk = MemDisk::new(alloc, 64, 512, Calls::of(alloc, failing)?)?;
     let limits = Limits {
         slots: 64,
@@ -138,7 +144,8 @@ impl Bench {
             Some(Answer::Group { tasks }) => match tasks.as_slice() {
                 [
                     Task {
-                        reply: Some(reply), ..
+                        reply: Some(reply),
+                        ..
                     },
                 ] => Some(told(reply)),
                 _ => None,

@@ -34,7 +34,7 @@ returns-in-Ok-clause-served g c =
     let batch = c.args.batch.now.items in
     let requests = requests_in batch in
     let open_ : c.args.worker.now.store.closed ≡ false = cc in
-    let r = c.step.ensures.stepped open_ in
+    let r = c.step-in-Ok.ensures.stepped open_ in
     let many : c.as_slice-many.result.now ≡ batch = c.as_slice-many.ensures in
     let n : length c.as_slice-many.result.now ≡ length requests =
     ap length many ∙ sym (length-requests batch) in (

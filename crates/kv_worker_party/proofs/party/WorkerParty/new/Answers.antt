@@ -8,21 +8,21 @@ use Rattle.kv_worker_party.proofs.party.WorkerParty.new.Goals as goal
 pub invariant_of-result : goal.invariant_of-result
 invariant_of-result g c =
     let parts = c.args.parts in
-    let connections = c.in-Ok-2.connections in
+    let connections = c.in-Ok-new_connections.connections in
     record {
       number_is = c.requires.number;
       workers_is = c.requires.workers;
-      one_of = ?;
-      size = omega (arith, c.in-Ok-2.ensures.size, c.peers.ensures);
-      idle = idle-to connections.items (λ s lt. ap (λ x. x.group) (c.in-Ok-2.ensures.new s));
+      one_of = (let h = c.type_inv in ?);
+      size = omega (arith, c.in-Ok-new_connections.ensures.size, c.peers.ensures);
+      idle = idle-to connections.items (λ s lt. ap (λ x. x.group) (c.in-Ok-new_connections.ensures.new s));
       empty = ap length c.in-Ok.ensures.empty;
       room = c.in-Ok.ensures.room;
       started = c.requires.started;
       ahead = λ open_. c.requires.ahead;
-      gone = λ s lt. gone-first parts.ends connections.items c.requires.ends c.in-Ok-2.ensures.new
+      gone = λ s lt. gone-first parts.ends connections.items c.requires.ends c.in-Ok-new_connections.ensures.new
           s;
       promise = λ before begins. merely (first-holds g.D.Disk g.I.Index c.of-first.result.value
           parts.worker parts.ends connections.items parts.seat.view before
-          c.of-first.ensures begins c.requires.ends c.in-Ok-2.ensures.new c.requires.drawn
+          c.of-first.ensures begins c.requires.ends c.in-Ok-new_connections.ensures.new c.requires.drawn
           c.requires.started);
     }

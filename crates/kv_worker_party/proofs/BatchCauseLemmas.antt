@@ -308,8 +308,12 @@ module _ {D I : Type 0} (laws : PartyLaws) (d : disks.Ghosts D) (i : indexes.Gho
           (drawn-spent seen (length requests) s.base view later s.drawn) done)
         where
           from : (s : IsStepped d i old now view later seen requests replies) → view.seen ≤ s.base
-          from s = omega (arith, s.drawn.raises.later, s.drawn.draws.later,
-              ap (λ (v : View). v.seen) s.drawn.raises.view)
+          from s = omega (
+            arith,
+            s.drawn.raises.later,
+            s.drawn.draws.later,
+            ap (λ (v : View). v.seen) s.drawn.raises.view,
+          )
       outcome s (inr (inl refused)) =
           refused_by s refused refused.reply refused.cause refused.replies_are
       outcome s (inr (inr failed)) = limited (failed-batch old now s.base view later requests
@@ -317,8 +321,12 @@ module _ {D I : Type 0} (laws : PartyLaws) (d : disks.Ghosts D) (i : indexes.Gho
           (drawn-spent seen (length requests) s.base view later s.drawn) failed)
         where
           from : (s : IsStepped d i old now view later seen requests replies) → view.seen ≤ s.base
-          from s = omega (arith, s.drawn.raises.later, s.drawn.draws.later,
-              ap (λ (v : View). v.seen) s.drawn.raises.view)
+          from s = omega (
+            arith,
+            s.drawn.raises.later,
+            s.drawn.draws.later,
+            ap (λ (v : View). v.seen) s.drawn.raises.view,
+          )
 
       by : HasServed d i old now view later seen requests replies → Result
       by (inl idle) =

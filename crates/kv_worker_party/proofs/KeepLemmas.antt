@@ -31,7 +31,7 @@ use Rattle.kv_stamps.specs.Ranges.{among, within, range}
 use Rattle.kv_stamps.specs.declared.view.Range.{Range}
 use Rattle.kv_stamps.specs.declared.view.View.{View}
 use Rattle.kv_worker_party.specs.Laws.{PartyLaws}
-use Rattle.kv_worker_party.specs.Party.{LeavesPrefixes, setting_of}
+use Rattle.kv_worker_party.specs.Party.{LeavesEach}
 use Rattle.kv_worker_party.specs.Serving.{IsIdle, IsClosed, IsSpent, IsStepped, HasServed}
 use Rattle.kv_worker.specs.Steps.{IsDone, IsRefused, HasRefusal, HasFailed, Continues, Steps}
 use Rattle.kv_worker.specs.Worker.{WorkerView, start_of}
@@ -53,8 +53,7 @@ pub record Keeps {D I : Type 0} (d : disks.Ghosts D) (i : indexes.Ghosts I) (sta
   pub follows : now.store.closed ≡ false → (stamp : ℕ) → view.seen ≤ stamp + 1
       → FollowsHistory d.tells (before ++ writes pairs) stamp (start_of d i now.store)
   pub sure : now.store.closed ≡ false → unsure_writes pairs ≡ []
-  pub leaves : LeavesPrefixes d (setting_of d.tells start sessions first.store.workers)
-      first.store.worker first.store.disk.disk now.store.disk.disk before pairs
+  pub leaves : LeavesEach d first.store.worker first.store.workers first.store.disk.disk now.store.disk.disk before pairs
   pub same : (now.store.worker ≡ first.store.worker)
       × (now.store.workers ≡ first.store.workers) × (now.store.limits ≡ first.store.limits)
 
@@ -207,8 +206,7 @@ module _ {D I : Type 0} (laws : PartyLaws) (d : disks.Ghosts D) (i : indexes.Gho
       → RecoversPrefix all_classes (before ++ writes pairs ++ writes (pairs_of requests replies)
       ++ unsure_writes (pairs_of requests replies)) (before ++ writes pairs
       ++ writes (pairs_of requests replies)) image old.store.worker old.store.workers)
-      → LeavesPrefixes d (setting_of d.tells start sessions first.store.workers)
-      first.store.worker first.store.disk.disk now.store.disk.disk before
+      → LeavesEach d first.store.worker first.store.workers first.store.disk.disk now.store.disk.disk before
       (pairs ++ pairs_of requests replies)
   leaves-more old now view requests replies base keeps sure up above more moments exit =
       let group : List Pair = pairs_of requests replies in

@@ -2,6 +2,13 @@ pub mod OpenLemmas
 pub mod BatchedLemmas
 pub mod StampedLemmas
 pub mod SilentLemmas
+pub mod ListLemmas
+pub mod KeyLemmas
+pub mod FullLemmas
+pub mod ReplyLemmas
+pub mod CauseLemmas
+pub mod BatchCauseLemmas
+pub mod WholeLemmas
 pub mod SeatLemmas
 pub mod KeepLemmas
 pub mod TurnLemmas

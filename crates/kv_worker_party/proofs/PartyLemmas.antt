@@ -16,14 +16,14 @@ use Rattle.kv_model.specs.Layout.{all_classes}
 use Rattle.kv_model.specs.Pairs.{Pair, pairs_in, stamps, writes}
 use Rattle.kv_model.specs.Recovery.{RecoversPrefix}
 use Rattle.kv_parties.specs.Groups.{Answers}
-use Rattle.kv_parties.specs.Messages.{groups_in, answered_in, all_asking, IsPartOf}
-use Rattle.kv_parties.specs.Recovered.{Recovers}
+use Rattle.kv_parties.specs.Messages.{groups_in, answered_in, all_asking, IsPartOf, IsWhole}
+use Rattle.kv_parties.specs.Causes.{KeepsCauses, all_writes}
 use Rattle.kv_parties.specs.Workers.{done_pairs, done_for}
 use Rattle.kv_stamps.specs.Ranges.{among}
 use Rattle.kv_worker_party.specs.Laws.{PartyLaws}
-use Rattle.kv_worker_party.specs.Party.{BeginsWith, Holds, StoodAndGoesOn, answers_to, setting_of}
+use Rattle.kv_worker_party.specs.Party.{BeginsWith, Holds, LeavesEach, StoodAndGoesOn, answers_to, setting_of}
 use Rattle.kv_worker_party.proofs.StampedLemmas.{has-weaker}
-use Rattle.kv_worker_party.proofs.TurnLemmas.{holds-turn}
+use Rattle.kv_worker_party.proofs.TurnLemmas.{holds-turn, leaves-prefixes}
 use Rattle.kv_base.specs.Reserved.{Reserved}
 use Rattle.kv_base.specs.declared.reply.Reply.{Reply}
 use Rattle.kv_base.specs.declared.request.Request.{Request}
@@ -299,12 +299,13 @@ module _ {F : Type 0} where
         (requests_in (in_hand 0 (map (λ intake. intake.tasks) intakes))) replies
         → worker_old.store.worker ≡ worker → worker_old.store.workers ≡ workers
         → seen ≡ greatest (map seen_in between)
+        → length (in_hand 0 (map (λ intake. intake.tasks) intakes)) ≤ 512
         → DeliversAll mid new between after
         (regroup 0 (map (λ intake. intake.tasks) intakes) items replies are).answered
         → turn ≡ turn_of (all_ended after) moved
         → Turns d i worker_old worker_now ends new old after view later turn
     turned d i worker_old worker_now new after view later seen turn items replies are framed served
-        worker_is workers_is seen_is delivers turn_is =
+        worker_is workers_is seen_is few delivers turn_is =
         let groups : List (List Task) = map (λ (intake : Intake F). intake.tasks) intakes in
         let r = regroup 0 groups items replies are in
         record {
@@ -334,6 +335,7 @@ module _ {F : Type 0} where
               (connection_of between s) (intake_of intakes s).tasks
               (g.each s (omega (arith, lt, g.size, size))).taken));
           batch = subst (λ xs. AreAnswered (in_hand 0 groups) xs replies) r.now_is are;
+          few = few;
           framed = framed;
           served = served;
           turn_is = turn_is ∙ ap (turn_of (all_ended after)) g.moved_is;
@@ -444,12 +446,14 @@ pub goes-later : {D I F : Type 0} (d : disks.Ghosts D) (i : indexes.Ghosts I)
     (start sessions : ℕ) (first now : WorkerView D I) (ends : Ends (Answer F) (Ask F) 8)
     (connections : List (Connection F)) (view later : View) (before : List Write)
     → Holds d i start sessions first now ends connections view before → Stayed view later
+    → later.spent ≡ view.spent
     → Holds d i start sessions first now ends connections later before
-goes-later d i start sessions first now ends connections view later before h stays = record {
+goes-later d i start sessions first now ends connections view later before h stays spent = record {
   promise = record {
     taken = h.promise.taken;
     part = h.promise.part;
-    few = h.promise.few;
+    each = h.promise.each;
+    whole = h.promise.whole;
     groups = record {
       history = h.promise.groups.history;
       right = h.promise.groups.right;
@@ -461,12 +465,19 @@ goes-later d i start sessions first now ends connections view later before h sta
       parts = h.promise.groups.parts;
       order = h.promise.groups.order;
     };
+    batches = h.promise.batches;
+    same = h.promise.same;
+    causes = subst (λ runs. KeepsCauses (setting_of d.tells start sessions first.store.workers
+        first.store.limits.slots) before runs (d.faults first.store.disk.disk)
+        (d.faults now.store.disk.disk) h.promise.batches) (sym spent) h.promise.causes;
+    leaves = h.promise.leaves;
   };
-  whole = h.whole;
+  paired = h.paired;
   low = has-weaker (λ stamp. stamp < view.seen) (λ stamp. stamp < later.seen)
       (λ stamp lt. omega (arith, lt, stays.up)) (done_pairs h.promise.groups.history) h.low;
   follows = λ open_ stamp le. h.follows open_ stamp (omega (arith, le, stays.up));
   sure = h.sure;
+  closed = h.closed;
   leaves = h.leaves;
   same = h.same;
 }
@@ -474,15 +485,17 @@ goes-later d i start sessions first now ends connections view later before h sta
 pub later-promise : {D I F : Type 0} (d : disks.Ghosts D) (i : indexes.Ghosts I)
     (first now : WorkerView D I) (ends : Ends (Answer F) (Ask F) 8)
     (connections : List (Connection F)) (view later : View) → Stayed view later
+    → later.spent ≡ view.spent
     → ((before : List Write) → BeginsWith d i first before (view.start - 1)
     → ∥ Holds d i view.start (peers ends) first now ends connections view before ∥₁)
     → (before : List Write) → BeginsWith d i first before (later.start - 1)
     → ∥ Holds d i later.start (peers ends) first now ends connections later before ∥₁
-later-promise d i first now ends connections view later stays promise before begins =
+later-promise d i first now ends connections view later stays spent promise before begins =
     ∥∥₁_map (promise before (subst (λ n. BeginsWith d i first before (n - 1)) stays.start begins))
     (λ (h : Holds d i view.start (peers ends) first now ends connections view before).
     subst (λ m. Holds d i m (peers ends) first now ends connections later before) (sym stays.start)
-    (goes-later d i view.start (peers ends) first now ends connections view later before h stays))
+    (goes-later d i view.start (peers ends) first now ends connections view later before h stays
+    spent))
 
 -- the promise stays where the ends only looked
 pub looked-promise : {D I F : Type 0} (d : disks.Ghosts D) (i : indexes.Ghosts I)
@@ -491,7 +504,7 @@ pub looked-promise : {D I F : Type 0} (d : disks.Ghosts D) (i : indexes.Ghosts I
     → Looked peer ends new
     → ∥ Holds d i start (peers ends) first now ends connections view before ∥₁
     → ∥ Holds d i start (peers new) first now new connections view before ∥₁
-looked-promise d i start first now ends new peer connections view before looked promise =
+looked-promise {F = F} d i start first now ends new peer connections view before looked promise =
     ∥∥₁_map promise (λ (h : Holds d i start (peers ends) first now ends connections view before).
     subst (λ n. Holds d i start n first now new connections view before) (sym looked.rings.peers)
     (record {
@@ -499,8 +512,9 @@ looked-promise d i start first now ends new peer connections view before looked 
         taken = h.promise.taken;
         part = λ s lt. subst (λ ms. IsPartOf (h.promise.taken s) (all_asking ms))
             (sym (looked.received s)) (h.promise.part s lt);
-        few = λ s lt. subst (λ given. length given ≤ length (h.promise.taken s)) (answers s)
-            (h.promise.few s lt);
+        each = λ s lt. subst (λ given. length given ≡ length (h.promise.taken s)) (answers s)
+            (h.promise.each s lt);
+        whole = λ s lt. subst (AllByRecursion (IsWhole {F = F})) (answers s) (h.promise.whole s lt);
         groups = record {
           history = h.promise.groups.history;
           right = h.promise.groups.right;
@@ -513,12 +527,17 @@ looked-promise d i start first now ends new peer connections view before looked 
           order = λ s lt. subst (λ given. Answers (groups_in (h.promise.taken s)) (answered_in given))
               (answers s) (h.promise.groups.order s lt);
         };
+        batches = h.promise.batches;
+        same = h.promise.same;
+        causes = h.promise.causes;
+        leaves = h.promise.leaves;
       };
-      whole = λ s lt. subst (λ given. length (answered_in given)
-          ≡ length (groups_in (h.promise.taken s))) (answers s) (h.whole s lt);
+      paired = λ s lt. subst (λ given. length (answered_in given)
+          ≡ length (groups_in (h.promise.taken s))) (answers s) (h.paired s lt);
       low = h.low;
       follows = h.follows;
       sure = h.sure;
+      closed = h.closed;
       leaves = h.leaves;
       same = h.same;
     }))
@@ -543,7 +562,8 @@ first-promise {D = D} {I = I} {F = F} d i worker ends connections view before be
       promise = record {
         taken = λ s. [];
         part = λ s lt. tt;
-        few = λ s lt. subst (λ given. length given ≤ 0) (none_sent s) (omega arith);
+        each = λ s lt. subst (λ given. length given ≡ 0) (none_sent s) refl;
+        whole = λ s lt. subst (AllByRecursion (IsWhole {F = F})) (none_sent s) tt;
         groups = record {
           history = [];
           right = record { distinct = tt; above = tt; fresh = tt; replies = tt };
@@ -554,20 +574,21 @@ first-promise {D = D} {I = I} {F = F} d i worker ends connections view before be
           parts = λ s lt. subst (λ given. pairs_in (answered_in given) ≡ []) (none_sent s) refl;
           order = λ s lt. subst (λ given. Answers [] (answered_in given)) (none_sent s) tt;
         };
+        batches = [];
+        same = refl;
+        causes = record { few = tt; closes = tt; counted = refl; spent = tt; full = λ told. tt };
+        leaves = leaves-prefixes d (setting_of d.tells view.start (peers ends) worker.store.workers
+            worker.store.limits.slots) worker.store.worker worker.store.disk.disk
+            worker.store.disk.disk before [] refl begun_leaves;
       };
-      whole = λ s lt. subst (λ given. length (answered_in given) ≡ 0) (none_sent s) refl;
+      paired = λ s lt. subst (λ given. length (answered_in given) ≡ 0) (none_sent s) refl;
       low = tt;
       follows = λ open_ stamp le. subst (λ w. FollowsHistory d.tells w stamp
           (start_of d i worker.store)) (sym (append-nil before))
           (follows-later stamp (omega (arith, le, started.0, started.1)));
       sure = λ open_. refl;
-      leaves = record {
-        any_moment = begun (d.calls worker.store.disk.disk) (d.leaves worker.store.disk.disk)
-            (λ image. Recovers (setting_of d.tells view.start (peers ends) worker.store.workers)
-            worker.store.worker image false before [])
-            (λ image left. recovered image false (begins.recovers image left));
-        exit = λ image left. recovered image true (begins.recovers image left);
-      };
+      closed = sym begins.open_;
+      leaves = begun_leaves;
       same = (refl, refl, refl);
     }
   where
@@ -588,25 +609,24 @@ first-promise {D = D} {I = I} {F = F} d i worker ends connections view before be
           (omega (arith, started.0)) (omega (arith, le)));
     }
 
-    recovered : (image : Image) (acknowledged : Bool)
+    recovered : (image : Image)
         → RecoversPrefix all_classes before before image worker.store.worker worker.store.workers
-        → Recovers (setting_of d.tells view.start (peers ends) worker.store.workers)
-        worker.store.worker image acknowledged before []
-    recovered image acknowledged was = by acknowledged
-      where
-        all : RecoversPrefix all_classes (before ++ [] ++ []) (before ++ []) image
-            worker.store.worker worker.store.workers
-        all =
-            let Q : List Write → List Write → Type 0 = λ w a. RecoversPrefix all_classes w a image
-            worker.store.worker worker.store.workers in
-            subst₂ Q (sym (append-nil (before ++ []) ∙ append-nil before))
-            (sym (append-nil before)) was
+        → RecoversPrefix all_classes (all_writes before []) (before ++ []) image
+        worker.store.worker worker.store.workers
+    recovered image was =
+        let Q : List Write → List Write → Type 0 = λ w a. RecoversPrefix all_classes w a image
+        worker.store.worker worker.store.workers in
+        subst₂ Q (sym (append-nil (before ++ []) ∙ append-nil before)) (sym (append-nil before)) was
 
-        by : (acknowledged : Bool)
-            → Recovers (setting_of d.tells view.start (peers ends) worker.store.workers)
-            worker.store.worker image acknowledged before []
-        by true = all
-        by false = all
+    begun_leaves : LeavesEach d worker.store.worker worker.store.workers worker.store.disk.disk
+        worker.store.disk.disk before []
+    begun_leaves = record {
+      any_moment = begun (d.calls worker.store.disk.disk) (d.leaves worker.store.disk.disk)
+          (λ image. RecoversPrefix all_classes (all_writes before []) (before ++ []) image
+          worker.store.worker worker.store.workers)
+          (λ image left. recovered image (begins.recovers image left));
+      exit = λ image left. recovered image (begins.recovers image left);
+    }
 
 -- the same, with the first worker as it was noted
 pub first-holds : {D I F : Type 0} (d : disks.Ghosts D) (i : indexes.Ghosts I)

@@ -5,16 +5,19 @@ use Rattle.std.proofs.Common.{refl, sym, ap, subst, subst₂, ◌∙◌, arith, 
 use Rattle.std.proofs.Common.{length-append, IfSome, MatchOption}
 use Rattle.std.specs.Prelude.{option_to_list, if◌then◌else◌}
 use Rattle.std.specs.List.{AllByRecursion, flat_map}
+use Rattle.std.proofs.lemmas.Grind.{merely}
 use Rattle.std.proofs.lemmas.List.{length-map}
 use Rattle.std.proofs.lemmas.List.Concat.{flat_map-append}
 use Rattle.kv_base.specs.Crash.{LeavesOnly}
+use Rattle.kv_base.specs.Image.{Image}
 use Rattle.kv_base.specs.Partition.{owner_of}
+use Rattle.kv_base.specs.declared.limits.Limits.{Limits}
 use Rattle.kv_base.specs.Reserved.{Reserved}
 use Rattle.kv_base.specs.declared.reply.Reply.{Reply}
 use Rattle.kv_base.specs.declared.request.Request.{Request}
 use Rattle.kv_disk.specs.declared.disk.Disk as disks
 use Rattle.kv_index.specs.declared.index.Index as indexes
-use Rattle.kv_model.proofs.PairwiseLemmas.{All-append, All-map, Pairwise-append}
+use Rattle.kv_model.proofs.PairwiseLemmas.{All-append, All-map, All-rest, Pairwise-append}
 use Rattle.kv_model.specs.Agreement.{AgreesWithMap}
 use Rattle.kv_model.specs.Batch.{IsTask}
 use Rattle.kv_model.specs.BatchLaws.{pairs_of}
@@ -24,12 +27,13 @@ use Rattle.kv_model.specs.Layout.{all_classes}
 use Rattle.kv_model.specs.Pairs.{Pair, pairs_in, stamps, writes, unsure_writes, key_of}
 use Rattle.kv_model.specs.Pairwise.{Pairwise}
 use Rattle.kv_model.specs.Recovery.{RecoversPrefix}
+use Rattle.kv_parties.specs.Causes.{all_writes}
 use Rattle.kv_parties.specs.Groups.{Asked, IsAnsweredBy, Answers}
 use Rattle.kv_parties.specs.Messages.{groups_in, answered_in, all_asking, group_of, asking}
-use Rattle.kv_parties.specs.Messages.{answered_of, task_pairs, IsPartOf}
+use Rattle.kv_parties.specs.Messages.{answered_of, task_pairs, IsPartOf, IsReplied, IsWhole}
 use Rattle.kv_parties.specs.Promises.{WorkerPromise}
-use Rattle.kv_parties.specs.Recovered.{all_writes}
-use Rattle.kv_parties.specs.Setting.{IsOwned}
+use Rattle.kv_parties.specs.Recovered.{LeavesPrefixes, Recovers}
+use Rattle.kv_parties.specs.Setting.{Setting, IsOwned}
 use Rattle.kv_parties.specs.Workers.{AnswersGroups, Done, done_pairs, done_for}
 use Rattle.kv_ring.specs.Ends.{peers, received_from}
 use Rattle.kv_ring.specs.Tasks.{requests_of}
@@ -48,7 +52,7 @@ use Rattle.kv_worker.specs.Batches.{AreAnswered, IsOpenTask, requests_in}
 use Rattle.kv_groups.specs.Delivering.{tasks_of}
 use Rattle.kv_groups.specs.Gathering.{Intake, intake_of, taken_by, nothing, greatest}
 use Rattle.kv_worker_party.specs.Laws.{PartyLaws}
-use Rattle.kv_worker_party.specs.Party.{GoesOn, Holds, LeavesPrefixes, answers_to, setting_of}
+use Rattle.kv_worker_party.specs.Party.{GoesOn, Holds, LeavesEach, answers_to, setting_of}
 use Rattle.kv_groups.specs.Taking.{connection_of, group_taken, takes_group}
 use Rattle.kv_groups.specs.Traffic.{traffic_with}
 use Rattle.kv_worker_party.specs.Turns.{Exchanges, Turns, answer_to, asked_seen, asked_seens, asked_tasks}
@@ -58,6 +62,9 @@ use Rattle.kv_worker_party.proofs.BatchedLemmas.{answered-many, answered-request
 use Rattle.kv_worker_party.proofs.BatchedLemmas.{in_hand-pairs, batch-pairs, all_done, done_pairs-all}
 use Rattle.kv_worker_party.proofs.BatchedLemmas.{done_pairs-append, done_for-append, done_for-all}
 use Rattle.kv_worker_party.proofs.BatchedLemmas.{done-below, stamps-append, stamps-at, rising-at}
+use Rattle.kv_worker_party.proofs.BatchCauseLemmas.{BatchCauses, served-batch, causes-push, pairs-push}
+use Rattle.kv_worker_party.proofs.WholeLemmas.{IsFramed, items-framed, tasks-each, tasks-replied}
+use Rattle.kv_worker_party.proofs.WholeLemmas.{answer-whole, pairs-few}
 use Rattle.kv_worker_party.proofs.KeepLemmas.{Keeps, Adds, served-keeps, served-leaves}
 use Rattle.kv_worker_party.proofs.StampedLemmas.{HasStamp, stamps-all}
 use Rattle.kv_groups.proofs.TakeLemmas.{is-taken}
@@ -205,6 +212,20 @@ owned-pairs worker workers (item ∷ items) [] all = tt
 owned-pairs worker workers (item ∷ items) (reply ∷ replies) all =
     (all.0.owned, owned-pairs worker workers items replies all.1)
 
+-- what a crash leaves at each moment, as one fact for each image
+pub leaves-prefixes : {D : Type 0} (d : disks.Ghosts D) (setting : Setting) (worker : ℕ)
+    (first now : D) (before : List Write) (pairs : List Pair) → setting.layout ≡ all_classes
+    → LeavesEach d worker setting.workers first now before pairs
+    → LeavesPrefixes d setting worker first now before pairs
+leaves-prefixes d setting worker first now before pairs layout leaves = record {
+  later = leaves.any_moment.later;
+  any_moment = λ moment from to image left. merely (subst (λ l. RecoversPrefix l
+      (all_writes before pairs) (before ++ []) image worker setting.workers) (sym layout)
+      (leaves.any_moment.each moment from to image left));
+  exit = λ image left. merely (subst (λ l. RecoversPrefix l (all_writes before pairs)
+      (before ++ writes pairs) image worker setting.workers) (sym layout) (leaves.exit image left));
+}
+
 -- the promise goes on through a turn
 pub holds-turn : {D I F : Type 0} (laws : PartyLaws) (d : disks.Ghosts D) (i : indexes.Ghosts I)
     (start sessions : ℕ) (first old now : WorkerView D I) (ends new : Ends (Answer F) (Ask F) 8)
@@ -287,9 +308,39 @@ holds-turn {D = D} {I = I} {F = F} laws d i start sessions first old now ends ne
     subst (λ ps. AllByRecursion (λ stamp. t.seen < stamp) (stamps ps)) (sym batch_is) r.1.above in
     let all_rising : Pairwise ◌<◌ (stamps (all_task_pairs t.answered)) =
     subst (λ ps. Pairwise ◌<◌ (stamps ps)) (sym batch_is) r.1.rising in
-    let promise : WorkerPromise (setting_of d.tells start sessions first.store.workers)
-    first.store.worker before (received_from new) (answers_to new after) later.drawn =
-    record {
+    let all_low : AllByRecursion (λ stamp. stamp < 2 ^ 62) (stamps (all_task_pairs t.answered)) =
+    subst (λ ps. AllByRecursion (λ stamp. stamp < 2 ^ 62) (stamps ps)) (sym batch_is)
+    (All-map (λ stamp. (start - 1 < stamp) × (stamp < 2 ^ 62)) (λ stamp. stamp < 2 ^ 62)
+    (stamps group) (λ stamp has. has.1)
+    (All-rest (λ stamp. (start - 1 < stamp) × (stamp < 2 ^ 62)) (stamps pairs) (stamps group)
+    (subst (AllByRecursion (λ stamp. (start - 1 < stamp) × (stamp < 2 ^ 62)))
+    (stamps-append pairs group) r.0.agrees.above))) in
+    let framed : AllByRecursion (λ item. IsFramed item.1) (in_hand 0 t.answered) =
+    items-framed (in_hand 0 t.answered) t.replies t.batch.replies_are t.framed in
+    let replied : (s : ℕ) → s < sessions → AllByRecursion IsReplied (tasks_of t.answered s) =
+    λ s lt. let a = at s lt in
+    tasks-replied (tasks_of t.answered s) a.replies a.replies_are
+    (tasks-each IsFramed 0 t.answered framed s)
+    (stamps-at (λ stamp. stamp < 2 ^ 62) t.answered s all_low) in
+    let setting : Setting = setting_of d.tells start sessions first.store.workers
+    first.store.limits.slots in
+    let batches : List (List Pair) = h.promise.batches in
+    let few : length group ≤ 512 = omega (
+      arith,
+      pairs-few requests t.replies,
+      length-map items (λ (i : ℕ × Task). i.1.request),
+      t.few,
+    ) in
+    let causes = causes-push d setting old now view later before (d.faults first.store.disk.disk)
+    batches group refl refl h.promise.causes h.closed few
+    (subst (λ ps. BatchCauses d first.store.limits.slots old now view later before ps group)
+    (sym h.promise.same)
+    (served-batch laws d i before pairs first.store.limits.slots old now t.seen view later requests
+    t.replies (ap (λ (l : Limits). l.slots) h.same.2)
+    (λ base up is_open. h.follows is_open (base - 1) (omega (arith, above.0, above.1, up)))
+    t.served)) in
+    let promise : WorkerPromise d setting first.store.worker before (received_from new)
+    (answers_to new after) later first.store.disk.disk now.store.disk.disk = record {
       taken = taken;
       part = λ s lt. subst (IsPartOf (taken s))
           (sym (ap all_asking (came s lt)
@@ -299,14 +350,18 @@ holds-turn {D = D} {I = I} {F = F} laws d i start sessions first old now ends ne
           (message s) (all_asking (option_to_list (intake_of t.intakes s).came))
           (h.promise.part s lt)
           (came-part worker workers (intake_of t.intakes s).waits (intake_of t.intakes s).came));
-      few = λ s lt.
+      each = λ s lt.
           let a = ap length (sent s lt)
           ∙ length-append (answers_to ends connections s)
           (reply s) in
           let b = length-append (h.promise.taken s) (message s) in
           let c = answer-length F (more s) (tasks_of t.answered s) in
-          let e = h.promise.few s lt in
+          let e = h.promise.each s lt in
           omega (arith, a, b, c, e);
+      whole = λ s lt. subst (AllByRecursion (IsWhole {F = F})) (sym (sent s lt))
+          (All-append (IsWhole {F = F}) (answers_to ends connections s) (reply s)
+          (h.promise.whole s lt)
+          (answer-whole F (more s) (tasks_of t.answered s) (replied s lt)));
       groups = record {
         history = history ++ fresh;
         right = subst (AgreesWithMap d.tells all_classes before (start - 1)) all_is r.0.agrees;
@@ -344,30 +399,39 @@ holds-turn {D = D} {I = I} {F = F} laws d i start sessions first old now ends ne
             (Answers-append (groups_in (h.promise.taken s)) (groups_in (message s))
             (answered_in (answers_to ends connections s))
             (answered_in (reply s))
-            (h.promise.groups.order s lt) (h.whole s lt)
+            (h.promise.groups.order s lt) (h.paired s lt)
             (answer-answers F (more s) (tasks_of t.answered s) t.seen (at s lt)
             (seen_low s lt)
             (stamps-at (λ stamp. t.seen < stamp) t.answered s all_above)
             (rising-at t.answered s all_rising)));
       };
+      batches = batches ++ group ∷ [];
+      same = pairs-push batches group ∙ ap (λ ps. ps ++ group) h.promise.same ∙ all_is;
+      causes = causes.0;
+      leaves = subst (LeavesPrefixes d setting first.store.worker first.store.disk.disk
+          now.store.disk.disk before)
+          (sym (pairs-push batches group ∙ ap (λ ps. ps ++ group) h.promise.same))
+          (leaves-prefixes d setting first.store.worker first.store.disk.disk now.store.disk.disk
+          before (pairs ++ group) refl r.0.leaves);
     } in
     let holds : Holds d i start sessions first now new after later before = record {
       promise = promise;
-      whole = λ s lt.
+      paired = λ s lt.
           let a = ap length (answered_more s lt)
           ∙ length-append (answered_in (answers_to ends connections s))
           (answered_in (reply s)) in
           let b = ap length (taken_more s)
           ∙ length-append (groups_in (h.promise.taken s)) (groups_in (message s)) in
           let c = answer-groups F (more s) (tasks_of t.answered s) in
-          let e = h.whole s lt in
+          let e = h.paired s lt in
           omega (arith, a, b, c, e);
       low = subst (AllByRecursion (HasStamp (λ stamp. stamp < later.seen))) all_is r.0.below;
       follows = λ is_open stamp le. subst (λ ps. FollowsHistory d.tells (before ++ writes ps) stamp
           (start_of d i now.store)) all_is (r.0.follows is_open stamp le);
       sure = λ is_open. ap unsure_writes (sym all_is) ∙ r.0.sure is_open;
-      leaves = subst (LeavesPrefixes d (setting_of d.tells start sessions first.store.workers)
-          first.store.worker first.store.disk.disk now.store.disk.disk before) all_is r.0.leaves;
+      closed = causes.1;
+      leaves = subst (LeavesEach d first.store.worker first.store.workers first.store.disk.disk
+          now.store.disk.disk before) all_is r.0.leaves;
       same = r.0.same;
     } in
     record {

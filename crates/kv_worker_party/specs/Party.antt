@@ -9,11 +9,11 @@ use Rattle.kv_index.specs.declared.index.Index as indexes
 use Rattle.kv_model.specs.History.{Write}
 use Rattle.kv_model.specs.Items.{FollowsHistory}
 use Rattle.kv_model.specs.Layout.{all_classes}
-use Rattle.kv_model.specs.Pairs.{Pair, stamp_of, writes, unsure_writes}
+use Rattle.kv_model.specs.Pairs.{Pair, pairs_in, stamp_of, writes, unsure_writes}
 use Rattle.kv_model.specs.Recovery.{RecoversPrefix}
 use Rattle.kv_parties.specs.Messages.{groups_in, answered_in}
 use Rattle.kv_parties.specs.Promises.{WorkerPromise}
-use Rattle.kv_parties.specs.Recovered.{Recovers, all_writes}
+use Rattle.kv_parties.specs.Causes.{all_writes, any_unsure}
 use Rattle.kv_parties.specs.Setting.{Setting}
 use Rattle.kv_parties.specs.Workers.{Done, done_pairs}
 use Rattle.kv_ring.specs.Ends.{sent_to, received_from, peers}
@@ -31,11 +31,13 @@ abbrev pub answers_to : {F : Type 0} → Ends (Answer F) (Ask F) 8 → List (Con
 answers_to ends connections session = sent_to ends session
     ++ option_to_list (connection_of connections session).waiting
 
--- what all parties serve, as a worker knows it: stamps begin with this one
-abbrev pub setting_of : Bool → ℕ → ℕ → ℕ → Setting
-setting_of told start sessions workers = record {
+-- what all parties serve, as a worker knows it: stamps begin with this one, and a class has at most so
+-- many slots
+abbrev pub setting_of : Bool → ℕ → ℕ → ℕ → ℕ → Setting
+setting_of told start sessions workers slots = record {
   told = told;
   layout = all_classes;
+  slots = slots;
   floor = start - 1;
   sessions = sessions;
   workers = workers;
@@ -44,12 +46,14 @@ setting_of told start sessions workers = record {
 -- at each moment between the two disks a crash leaves of each key the value after a prefix of the
 -- earlier writes, the acknowledged and the unsure ones, which holds all earlier ones; and at the last
 -- one of all acknowledged ones too
-pub record LeavesPrefixes {D : Type 0} (d : disks.Ghosts D) (setting : Setting) (worker : ℕ)
-    (first now : D) (before : List Write) (pairs : List Pair) : Type 0 where
+pub record LeavesEach {D : Type 0} (d : disks.Ghosts D) (worker workers : ℕ) (first now : D)
+    (before : List Write) (pairs : List Pair) : Type 0 where
   pub any_moment : LeavesOnly (d.calls first) (d.calls now) (d.leaves first) (d.leaves now)
-      (λ image. Recovers setting worker image false before pairs)
+      (λ image. RecoversPrefix all_classes (all_writes before pairs) (before ++ []) image worker
+      workers)
   pub exit : (image : Image) → MayLeave (d.leaves now (d.calls now)) image
-      → Recovers setting worker image true before pairs
+      → RecoversPrefix all_classes (all_writes before pairs) (before ++ writes pairs) image worker
+      workers
 
 -- the open worker begins with what these writes left, none of whose stamps is above the floor, and a
 -- crash now leaves all of them
@@ -62,15 +66,16 @@ pub record BeginsWith {D I : Type 0} (d : disks.Ghosts D) (i : indexes.Ghosts I)
       → MayLeave (d.leaves worker.store.disk.disk (d.calls worker.store.disk.disk)) image
       → RecoversPrefix all_classes before before image worker.store.worker worker.store.workers
 
--- the party keeps its promise of what it received and sent, from these writes on: each group that it
--- took is answered; all stamps are below what its seat has seen; an open worker's map is what its
--- history gives; and a crash leaves a prefix of this
+-- the party keeps its promise of what it received and sent, from these writes on; and each group that
+-- it took is answered, all stamps are below what its seat has seen, an open worker's map is what its
+-- history gives, and a worker is closed exactly where a write was unsure
 pub record Holds {D I F : Type 0} (d : disks.Ghosts D) (i : indexes.Ghosts I)
     (start sessions : ℕ) (first now : WorkerView D I) (ends : Ends (Answer F) (Ask F) 8)
     (connections : List (Connection F)) (view : View) (before : List Write) : Type 0 where
-  pub promise : WorkerPromise (setting_of d.tells start sessions first.store.workers)
-      first.store.worker before (received_from ends) (answers_to ends connections) view.drawn
-  pub whole : (session : ℕ) → session < sessions
+  pub promise : WorkerPromise d (setting_of d.tells start sessions first.store.workers
+      first.store.limits.slots) first.store.worker before (received_from ends)
+      (answers_to ends connections) view first.store.disk.disk now.store.disk.disk
+  pub paired : (session : ℕ) → session < sessions
       → length (answered_in (answers_to ends connections session))
       ≡ length (groups_in (promise.taken session))
   pub low : AllByRecursion (λ pair. MatchOption (stamp_of pair.reply) ⊤ (λ stamp. stamp < view.seen))
@@ -80,9 +85,9 @@ pub record Holds {D I F : Type 0} (d : disks.Ghosts D) (i : indexes.Ghosts I)
       (start_of d i now.store)
   pub sure : now.store.closed ≡ false
       → unsure_writes (done_pairs promise.groups.history) ≡ []
-  pub leaves : LeavesPrefixes d (setting_of d.tells start sessions first.store.workers)
-      first.store.worker first.store.disk.disk now.store.disk.disk before
-      (done_pairs promise.groups.history)
+  pub closed : any_unsure (pairs_in promise.batches) ≡ now.store.closed
+  pub leaves : LeavesEach d first.store.worker first.store.workers first.store.disk.disk
+      now.store.disk.disk before (done_pairs promise.groups.history)
   pub same : (now.store.worker ≡ first.store.worker)
       × (now.store.workers ≡ first.store.workers) × (now.store.limits ≡ first.store.limits)
 

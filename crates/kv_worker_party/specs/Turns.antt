@@ -81,6 +81,7 @@ pub record Turns {D I F : Type 0} (d : disks.Ghosts D) (i : indexes.Ghosts I)
   pub seen_is : seen ≡ greatest (asked_seens old.store.worker old.store.workers intakes)
   pub batch : AreAnswered (in_hand 0 (all_tasks intakes))
       (in_hand 0 answered) replies
+  pub few : length (in_hand 0 (all_tasks intakes)) ≤ 512
   pub framed : AllByRecursion HasReplyFrame replies
   pub served : HasServed d i old now view later seen
       (requests_in (in_hand 0 (all_tasks intakes))) replies

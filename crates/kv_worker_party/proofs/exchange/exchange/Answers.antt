@@ -83,6 +83,13 @@ returns-clause-turned g c =
     c.serve.new.worker c.args.seat.now.view c.serve.new.seat.view c.greatest_seen-seen.result
     (requests_in xs) s.0) is s.3) (sym c.requires.number) (sym c.requires.workers)
     c.greatest_seen-seen.ensures
+    (omega (
+      arith,
+      ap length is,
+      c.gather-moved.ensures.few,
+      c.requires.empty,
+      c.args.ends.now.most,
+    ))
     (c.deliver.ensures.delivered _ (served-back c.args.numbers.0 c.args.numbers.1 c.args.ends.now
     c.gather-moved.new.ends c.args.connections.now.items c.gather-moved.new.connections.items v.0
     c.gather-moved.result v.1 (omega (arith, c.requires.size, c.args.connections.now.ok))

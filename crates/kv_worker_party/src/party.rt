@@ -82,6 +82,7 @@ fn new_connections<F: Drop>(alloc: Global, sessions: u32) -> Result<Vec<Connecti
 impl<D: Disk + Drop, I: Index + Drop, F: Drop> WorkerParty<D, I, F> {
     ghost use Rattle.std.specs.Prelude.{◌≡◌, ◌≢◌, ℕ, ◌+◌, ◌-◌, ◌<◌, ◌≤◌, ◌^◌, [], min, IfOk, IfErr};
     ghost use Rattle.std.specs.Prelude.{false, length, vec_len, List};
+    ghost use Rattle.kv_model.specs.Head.{IsWorker};
     ghost use Rattle.kv_model.specs.History.{Write};
     ghost use Rattle.kv_ring.specs.Ends.{peers, known_from, IsFresh, AreBetween, SameRings, Looked};
     ghost use Rattle.kv_ring.specs.Ends.{sent_to, received_from, HasAll, KnowsPlaces};
@@ -102,6 +103,7 @@ impl<D: Disk + Drop, I: Index + Drop, F: Drop> WorkerParty<D, I, F> {
         requires opened { parts.worker.store.closed ≡ false }
         requires number { number ≡ parts.worker.store.worker }
         requires workers { workers ≡ parts.worker.store.workers }
+        requires one_of { IsWorker number workers }
         requires ends { IsFresh parts.ends }
         requires drawn { parts.seat.view.drawn ≡ [] }
         requires started { (1 ≤ parts.seat.view.start)

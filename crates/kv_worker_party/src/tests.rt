@@ -38,6 +38,7 @@ const UNSURE: u8 = 5;
 const OTHER: u8 = 9;
 
 // The worker 0 of 1 as a party, and the ends of its sessions.
+#[derive(Drop)]
 struct Bench {
     party: WorkerParty<MemDisk, FlatIndex, u64>,
     stamps: Stamps,
@@ -61,7 +62,7 @@ fn worker_over(alloc: Global, failing: &[u32]) -> Result<Worker<MemDisk, FlatInd
     }
 }
 
-fn bench(alloc: Global, sessions: u32, failing: &[u32]) -> Result<Bench, Fail>
+fn open_bench(alloc: Global, sessions: u32, failing: &[u32]) -> Result<Bench, Fail>
     requires { (1 ≤ sessions) × (sessions ≤ 8) }
 {
     let worker = worker_over(alloc, failing)?;
@@ -158,7 +159,7 @@ impl Bench {
 #[test]
 fn the_groups_of_all_sessions_are_one_batch_in_their_order(rt: HostRuntime) -> Result<(), Fail> {
     let alloc = rt.alloc();
-    let mut bench = bench(alloc, 2, &[])?;
+    let mut bench = open_bench(alloc, 2, &[])?;
     assert_eq!(rt; bench.turn(), IDLE);
     assert!(rt; bench.send(1, group(alloc, 0, GET, b"a", b"")?));
     assert!(rt; bench.send(0, group(alloc, 0, PUT, b"a", b"1")?));
@@ -177,7 +178,7 @@ fn the_groups_of_all_sessions_are_one_batch_in_their_order(rt: HostRuntime) -> R
 #[test]
 fn stamps_are_above_what_a_session_had_seen(rt: HostRuntime) -> Result<(), Fail> {
     let alloc = rt.alloc();
-    let mut bench = bench(alloc, 2, &[])?;
+    let mut bench = open_bench(alloc, 2, &[])?;
     assert!(rt; bench.send(0, group(alloc, 0, GET, b"a", b"")?));
     assert!(rt; bench.send(1, group(alloc, 40, DELETE, b"a", b"")?));
     assert_eq!(rt; bench.turn(), MOVED);
@@ -190,7 +191,7 @@ fn stamps_are_above_what_a_session_had_seen(rt: HostRuntime) -> Result<(), Fail>
 #[test]
 fn an_answer_waits_for_a_place_in_its_ring(rt: HostRuntime) -> Result<(), Fail> {
     let alloc = rt.alloc();
-    let mut bench = bench(alloc, 1, &[])?;
+    let mut bench = open_bench(alloc, 1, &[])?;
     for _group in 0..3 {
         assert!(rt; bench.send(0, group(alloc, 0, GET, b"a", b"")?));
         assert_eq!(rt; bench.turn(), MOVED);

@@ -12,7 +12,7 @@ invariant_of-result g c =
     record {
       number_is = c.requires.number;
       workers_is = c.requires.workers;
-      one_of = (let h = c.type_inv in ?);
+      one_of = c.requires.one_of;
       size = omega (arith, c.in-Ok-new_connections.ensures.size, c.peers.ensures);
       idle = idle-to connections.items (λ s lt. ap (λ x. x.group) (c.in-Ok-new_connections.ensures.new s));
       empty = ap length c.in-Ok.ensures.empty;

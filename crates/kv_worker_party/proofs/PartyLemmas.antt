@@ -41,7 +41,8 @@ use Rattle.kv_ring.specs.declared.message.Ask.TheVariants as ask
 use Rattle.kv_ring.specs.declared.task.Task.{Task}
 use Rattle.kv_stamps.specs.declared.view.View.{View}
 use Rattle.kv_groups.specs.declared.connection.Connection.{Connection}
-use Rattle.kv_worker_party.specs.declared.turn.Turn.{Turn}
+use Rattle.kv_ring.specs.Turn.{turn_of}
+use Rattle.kv_ring.specs.declared.turn.Turn.{Turn}
 use Rattle.kv_groups.specs.Batched.{of_session, in_hand, tasks_in, IsEmptied, AreReplied}
 use Rattle.kv_worker.specs.Batches.{AreAnswered, IsOpenTask, requests_in}
 use Rattle.kv_groups.specs.Delivering.{Delivers, DeliversAll, AreBack, AreFree, answer_of, tasks_of}
@@ -53,7 +54,7 @@ use Rattle.kv_worker_party.specs.Serving.{IsIdle, IsClosed, IsSpent, IsStepped, 
 use Rattle.kv_groups.specs.Taking.{connection_of, new_connection, group_taken, takes_group}
 use Rattle.kv_groups.specs.Taking.{has_bye, is_bye}
 use Rattle.kv_groups.specs.Traffic.{Traffic, traffic_with}
-use Rattle.kv_worker_party.specs.Turns.{Exchanges, Turns, answer_to, asked_seen, asked_seens, asked_tasks, turn_of, StaysAhead}
+use Rattle.kv_worker_party.specs.Turns.{Exchanges, Turns, answer_to, asked_seen, asked_seens, asked_tasks, StaysAhead}
 use Rattle.kv_worker.specs.Worker.{WorkerView, start_of}
 use Rattle.kv_groups.proofs.GatherLemmas.{or-false, or-assoc}
 use Rattle.kv_worker_party.proofs.BatchedLemmas.{in_hand-all, regroup, all-many, answered-at, answered-many}

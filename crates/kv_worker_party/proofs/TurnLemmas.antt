@@ -46,7 +46,7 @@ use Rattle.kv_ring.specs.declared.task.Task.{Task}
 use Rattle.kv_stamps.specs.Ranges.{among}
 use Rattle.kv_stamps.specs.declared.view.View.{View}
 use Rattle.kv_groups.specs.declared.connection.Connection.{Connection}
-use Rattle.kv_worker_party.specs.declared.turn.Turn.{Turn}
+use Rattle.kv_ring.specs.declared.turn.Turn.{Turn}
 use Rattle.kv_groups.specs.Batched.{of_session, in_hand, AreReplied}
 use Rattle.kv_worker.specs.Batches.{AreAnswered, IsOpenTask, requests_in}
 use Rattle.kv_groups.specs.Delivering.{tasks_of}

@@ -12,11 +12,11 @@ use Rattle.kv_ring.specs.declared.ends.Ends.{Ends}
 use Rattle.kv_ring.specs.declared.message.Answer.{Answer}
 use Rattle.kv_ring.specs.declared.message.Answer.TheVariants.{Group}
 use Rattle.kv_ring.specs.declared.message.Ask.{Ask}
+use Rattle.kv_ring.specs.Turn.{turn_of}
 use Rattle.kv_ring.specs.declared.task.Task.{Task}
+use Rattle.kv_ring.specs.declared.turn.Turn.{Turn}
 use Rattle.kv_stamps.specs.declared.view.View.{View}
 use Rattle.kv_groups.specs.declared.connection.Connection.{Connection}
-use Rattle.kv_worker_party.specs.declared.turn.Turn.{Turn}
-use Rattle.kv_worker_party.specs.declared.turn.Turn.TheVariants.{Moved, Idle, Ended}
 use Rattle.kv_groups.specs.Batched.{in_hand, AreReplied}
 use Rattle.kv_worker.specs.Batches.{AreAnswered, requests_in}
 use Rattle.kv_groups.specs.Delivering.{tasks_of, all_ended}
@@ -61,10 +61,6 @@ module _ {F : Type 0} where
         ++ answer_to (taken_by worker workers intake) answered
     pub replied : AreReplied intake.tasks answered
     pub gone : now.gone ≡ (old.gone || is_bye intake.came)
-
--- the party has ended, went on, or had nothing to do
-abbrev pub turn_of : Bool → Bool → Turn
-turn_of ended moved = if ended then Ended else (if moved then Moved else Idle)
 
 -- the tasks of all sessions make one batch, which is answered, and each session gets its part
 pub record Turns {D I F : Type 0} (d : disks.Ghosts D) (i : indexes.Ghosts I)

@@ -2,30 +2,16 @@ ghost use Rattle.std.specs.Prelude.{◌≡◌, ◌<◌, ◌≤◌, [], length, v
 ghost use Rattle.kv_model.specs.Head.{IsWorker};
 ghost use Rattle.kv_ring.specs.Ends.{peers};
 ghost use Rattle.kv_groups.specs.Gathering.{all_idle};
-ghost use Rattle.kv_worker_party.specs.Turns.{Turns, StaysAhead, turn_of};
+ghost use Rattle.kv_worker_party.specs.Turns.{Turns, StaysAhead};
 
 use crate::serve::serve;
-use crate::turn::Turn;
 use kv_disk::Disk;
 use kv_groups::{Connection, all_ended, deliver, gather, greatest_seen};
 use kv_index::Index;
-use kv_ring::WorkerEnds;
+use kv_ring::{Turn, WorkerEnds};
 use kv_stamps::{StampSeat, Stamps};
 use kv_worker::{Batch, Worker};
 use std::alloc::Global;
-
-// What the turn was.
-fn turn_of(ended: bool, moved: bool) -> Turn
-    ensures { result ≡ turn_of ended moved }
-{
-    if ended {
-        Turn::Ended
-    } else if moved {
-        Turn::Moved
-    } else {
-        Turn::Idle
-    }
-}
 
 /// Takes the next message of each session, answers the groups as one batch of the worker with this
 /// number among so many, and sends the answers.
@@ -61,5 +47,5 @@ pub fn exchange<D: Disk + Drop, I: Index + Drop, F: Drop>(
     let seen = greatest_seen(connections);
     serve(alloc, worker, stamps, seat, batch, seen);
     deliver(ends, connections, batch);
-    turn_of(all_ended(connections), moved)
+    Turn::of(all_ended(connections), moved)
 }

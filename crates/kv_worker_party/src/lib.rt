@@ -7,7 +7,5 @@ mod party;
 mod serve;
 #[cfg(test)]
 mod tests;
-mod turn;
 
 pub use party::{WorkerParts, WorkerParty};
-pub use turn::Turn;

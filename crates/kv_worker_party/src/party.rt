@@ -9,12 +9,11 @@ ghost use Rattle.kv_groups.specs.Taking.{connection_of, new_connection, has_bye}
 
 use crate::exchange::exchange;
 use crate::laws::party_laws;
-use crate::turn::Turn;
 use kv_base::NoMemory;
 use kv_disk::Disk;
 use kv_groups::Connection;
 use kv_index::Index;
-use kv_ring::{SessionEnds, WorkerEnds, left_between};
+use kv_ring::{SessionEnds, Turn, WorkerEnds, WorkerSide, left_between};
 use kv_stamps::{StampSeat, Stamps};
 use kv_worker::{Batch, Worker};
 use std::alloc::Global;
@@ -84,8 +83,7 @@ impl<D: Disk + Drop, I: Index + Drop, F: Drop> WorkerParty<D, I, F> {
     ghost use Rattle.std.specs.Prelude.{false, length, vec_len, List};
     ghost use Rattle.kv_model.specs.Head.{IsWorker};
     ghost use Rattle.kv_model.specs.History.{Write};
-    ghost use Rattle.kv_ring.specs.Ends.{peers, known_from, IsFresh, AreBetween, SameRings, Looked};
-    ghost use Rattle.kv_ring.specs.Ends.{sent_to, received_from, HasAll, KnowsPlaces};
+    ghost use Rattle.kv_ring.specs.Ends.{peers, IsFresh};
     ghost use Rattle.kv_stamps.specs.Steps.{Raises, Looks};
     ghost use Rattle.kv_worker_party.specs.Party.{BeginsWith, StoodAndGoesOn};
     ghost use Rattle.kv_groups.specs.Taking.{new_connection};
@@ -196,32 +194,6 @@ impl<D: Disk + Drop, I: Index + Drop, F: Drop> WorkerParty<D, I, F> {
         stamps.look(&mut self.seat)
     }
 
-    /// How many messages are left in the two rings between this worker and a session, with the
-    /// session's ends. Nothing is sent or received. Takes no memory.
-    pub fn left_between(
-        &mut self,
-        session: u32,
-        session_ends: &mut SessionEnds<F>,
-        worker: u32,
-    ) -> u32
-        requires worker { worker < peers session_ends.old }
-        requires session { session < peers self.old.ends }
-        requires rings { AreBetween session_ends.old session self.old.ends worker }
-        ensures session_ends { Looked worker session_ends.old session_ends.new }
-        ensures worker_ends { Looked session self.old.ends self.new.ends }
-        ensures asks { HasAll session_ends.new worker self.new.ends session }
-        ensures answers { HasAll self.new.ends session session_ends.new worker }
-        ensures asks_places { KnowsPlaces session_ends.new worker self.new.ends session }
-        ensures answers_places { KnowsPlaces self.new.ends session session_ends.new worker }
-        ensures value { result ≡ length (known_from self.new.ends session)
-            + length (known_from session_ends.new worker) }
-        ensures kept { (self.new.worker ≡ self.old.worker) × (self.new.seat ≡ self.old.seat)
-            × (self.new.connections ≡ self.old.connections)
-            × (self.new.first.value ≡ self.old.first.value) }
-    {
-        left_between(session_ends, session, &mut self.ends, worker)
-    }
-
     /// The parts. Answers that wait to be sent are dropped.
     pub fn into_parts(self) -> WorkerParts<D, I, F>
         ensures { (result.worker ≡ self.worker) × (result.ends ≡ self.ends)
@@ -239,5 +211,19 @@ impl<D: Disk + Drop, I: Index + Drop, F: Drop> WorkerParty<D, I, F> {
             alloc: _,
         } = self;
         WorkerParts { worker, ends, seat }
+    }
+}
+
+/// A look leaves all of the party but what its ends know of.
+impl<D: Disk + Drop, I: Index + Drop, F: Drop> WorkerSide<F> for WorkerParty<D, I, F> {
+    ghost use Rattle.std.specs.Prelude.{◌≡◌};
+
+    ghost ends = { λ party. party.ends };
+
+    ghost Stays = { λ old new. (new.worker ≡ old.worker) × (new.seat ≡ old.seat)
+        × (new.connections ≡ old.connections) × (new.first.value ≡ old.first.value) };
+
+    fn left_beside(&mut self, session_ends: &mut SessionEnds<F>, session: u32, worker: u32) -> u32 {
+        left_between(session_ends, session, &mut self.ends, worker)
     }
 }

@@ -2,12 +2,11 @@ ghost use Rattle.std.specs.Prelude.{◌≡◌, ◌≤◌, ◌<◌, All};
 ghost use Rattle.kv_ring.specs.Ends.{peers};
 
 use crate::party::{WorkerParts, WorkerParty};
-use crate::turn::Turn;
 use kv_base::{Bytes, Calls, Limits, Reply, Request, ReservedList};
 use kv_disk::MemDisk;
 use kv_index::FlatIndex;
 use kv_recover::open_store;
-use kv_ring::{Answer, Ask, SessionEnds, Task, mesh};
+use kv_ring::{Answer, Ask, SessionEnds, Task, Turn, mesh};
 use kv_stamps::Stamps;
 use kv_worker::Worker;
 use std::alloc::Global;

@@ -6,7 +6,7 @@ use Rattle.kv_worker.specs.Batches.{AreAnswered, requests_in}
 use Rattle.kv_groups.specs.Batched.{in_hand}
 use Rattle.kv_groups.specs.Gathering.{all_tasks}
 use Rattle.kv_worker_party.specs.Serving.{HasServed}
-use Rattle.kv_worker_party.specs.Turns.{turn_of}
+use Rattle.kv_ring.specs.Turn.{turn_of}
 use Rattle.kv_worker_party.proofs.PartyLemmas.{idle-from, idle-to, gathered-open, gathered-low}
 use Rattle.kv_worker_party.proofs.PartyLemmas.{gathered-free, served-back, turned, served-stays}
 use Rattle.kv_worker_party.proofs.PartyLemmas.{batch-is, open-batch, answered-length}
@@ -77,7 +77,7 @@ returns-clause-turned g c =
     c.args.connections.now.items c.gather-moved.new.connections.items v.0 c.gather-moved.result v.1
     (omega (arith, c.requires.size, c.args.connections.now.ok)) g.D.Disk g.I.Index
     c.args.worker.now c.serve.new.worker c.deliver.new.ends c.deliver.new.connections.items
-    c.args.seat.now.view c.serve.new.seat.view c.greatest_seen-seen.result c.turn_of.result
+    c.args.seat.now.view c.serve.new.seat.view c.greatest_seen-seen.result c.of.result
     c.serve.new.batch.items s.0 are s.2
     (subst (λ (xs : List (ℕ × Task)). HasServed g.D.Disk g.I.Index c.args.worker.now
     c.serve.new.worker c.args.seat.now.view c.serve.new.seat.view c.greatest_seen-seen.result
@@ -94,7 +94,7 @@ returns-clause-turned g c =
     c.gather-moved.new.ends c.args.connections.now.items c.gather-moved.new.connections.items v.0
     c.gather-moved.result v.1 (omega (arith, c.requires.size, c.args.connections.now.ok))
     c.serve.new.batch.items s.0 are))
-    (c.turn_of.ensures ∙ ap (λ b. turn_of b c.gather-moved.result) c.all_ended.ensures)
+    (c.of.ensures ∙ ap (λ b. turn_of b c.gather-moved.result) c.all_ended.ensures)
 
 pub returns-clause-ahead : goal.returns-clause-ahead
 returns-clause-ahead g c =

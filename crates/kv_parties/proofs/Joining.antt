@@ -20,7 +20,7 @@ use Rattle.kv_parties.specs.Sessions.{part_of}
 use Rattle.kv_parties.specs.Sessions.{all_asked}
 use Rattle.kv_parties.specs.Begun.{IsBefore}
 use Rattle.kv_parties.proofs.Rings.{Rings, Course, RingsKeep, IsQuiet, rings_answered, courses_pairs}
-use Rattle.kv_parties.proofs.Lists.{In, eq_self, In-left, In-right, All-In, In-All, In-row}
+use Rattle.kv_parties.proofs.Lists.{In, eq_self, count, In-left, In-right, All-In, In-All, In-row}
 use Rattle.kv_parties.proofs.Lists.{In-row-back, In-filter, In-filter-back, In-map, In-map-back}
 use Rattle.kv_parties.proofs.Lists.{In-flat_map-back, flat_map-append, count-within, sum_below-le}
 use Rattle.kv_parties.proofs.Lists.{sum_below-same, sum_below-zero, sum_below-add, sum_below-swap}

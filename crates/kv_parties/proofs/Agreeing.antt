@@ -262,7 +262,7 @@ module _ (setting : Setting) (before : ℕ → List Write) (base : IsBefore sett
       In-filter_map acknowledged p x (own w) e (subst (λ n. In p (own n)) same f.2)
 
   -- a key has at each stamp what its owner's writes alone give it
-  value-same : (w t : ℕ) (key : List ℕ) → w < setting.workers → owner_of key setting.workers ≡ w
+  pub value-same : (w t : ℕ) (key : List ℕ) → w < setting.workers → owner_of key setting.workers ≡ w
       → value_at (before w ++ writes (own w)) t key
       ≡ value_at ((all_before setting before) ++ writes pairs) t key
   value-same w t key lt is =

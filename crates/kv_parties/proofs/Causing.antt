@@ -195,7 +195,7 @@ In-Contains x [] i = absurd i
 In-Contains x (y ∷ xs) (inl e) = subst (Contains (y ∷ xs)) e (Contains-first y xs)
 In-Contains x (y ∷ xs) (inr i) = Contains-behind y xs x (In-Contains x xs i)
 
-Contains-In : {X : Type 0} (x : X) (xs : List X) → Contains xs x → In x xs
+pub Contains-In : {X : Type 0} (x : X) (xs : List X) → Contains xs x → In x xs
 Contains-In x [] has = absurd (omega (arith, has.1))
 Contains-In x (y ∷ xs) has = ⊎_elim (λ (e : y ≡ x). inl e)
     (λ (later : Contains xs x). inr (Contains-In x xs later)) (Contains-cons y xs x has)
@@ -250,6 +250,25 @@ module _ (setting : Setting) (before : ℕ → List Write) (base : IsBefore sett
   each-owned w P all none = In-All P (owned_pairs setting.workers w pairs) (λ p i.
       ⊎_elim (λ (a : In p (own w)). All-In P p (own w) all a)
       (λ (b : IsHere setting.layout p). none p b) (from-owned w p i))
+
+  -- one of the worker's own pairs is unsure exactly where one of all pairs about its keys is
+  unsure-owned : (w : ℕ) → w < setting.workers
+      → any_unsure (own w) ≡ any_unsure (owned_pairs setting.workers w pairs)
+  unsure-owned w lt = both (any_unsure (own w)) (any_unsure (owned_pairs setting.workers w pairs))
+      (λ e. let r = any-back is_unsure_pair (own w) e in
+      any-In is_unsure_pair r.0 (owned_pairs setting.workers w pairs) (to-owned w r.0 lt r.1) r.2)
+      (λ e. let r = any-back is_unsure_pair (owned_pairs setting.workers w pairs) e in ⊎_elim
+      (λ (a : In r.0 (own w)). any-In is_unsure_pair r.0 (own w) a r.2)
+      (λ (b : IsHere setting.layout r.0).
+      let no : is_unsure_pair r.0 ≡ false =
+      refuses (λ reply. is_unsure reply ≡ false) refl refl refl setting.layout r.0 b in
+      let never : true ≡ false = sym r.2 ∙ no in absurd (cc))
+      (from-owned w r.0 r.1))
+    where
+      both : (a b : Bool) → (a ≡ true → b ≡ true) → (b ≡ true → a ≡ true) → a ≡ b
+      both true b f g = sym (f refl)
+      both false true f g = g refl
+      both false false f g = refl
 
   weigh-zero : (ps : List Pair) → weigh (λ p. 0) ps ≡ 0
   weigh-zero [] = refl
@@ -377,11 +396,11 @@ module _ (setting : Setting) (before : ℕ → List Write) (base : IsBefore sett
       }
 
   -- what a worker keeps of its batches holds of all pairs about its keys
-  pub causes_of : (w : ℕ) (runs : List Range) (faults faults' : ℕ) (batches : List (List Pair))
-      → w < setting.workers → pairs_in batches ≡ own w
-      → KeepsCauses setting (before w) runs faults faults' batches
-      → HasCauses setting w (all_before setting before) runs faults faults' pairs
-  causes_of w runs faults faults' batches lt same keeps = record {
+  pub causes_of : (w : ℕ) (runs : List Range) (faults faults' : ℕ) (closed : Bool)
+      (batches : List (List Pair)) → w < setting.workers → pairs_in batches ≡ own w
+      → KeepsCauses setting (before w) runs faults faults' closed batches
+      → HasCauses setting w (all_before setting before) runs faults faults' closed pairs
+  causes_of w runs faults faults' closed batches lt same keeps = record {
     faulty = λ top.
         omega (
           arith,
@@ -398,7 +417,8 @@ module _ (setting : Setting) (before : ℕ → List Write) (base : IsBefore sett
       ap (weigh (mark is_unsure_pair)) same,
       unsure-few batches keeps.few keeps.closes,
     );
-    closed = In-All _ (owned_pairs setting.workers w pairs) (λ p i e. ⊎_elim
+    closed_is = keeps.closed_is ∙ (ap any_unsure same ∙ unsure-owned w lt);
+    closes = In-All _ (owned_pairs setting.workers w pairs) (λ p i e. ⊎_elim
         (λ (a : In p (own w)).
         let r = any-back is_unsure_pair (pairs_in batches) (closed-cause batches p keeps.closes
         (subst (In p) (sym same) a) e) in

@@ -20,14 +20,14 @@ use Rattle.kv_parties.specs.Sessions.{part_of}
 use Rattle.kv_parties.specs.Sessions.{all_asked}
 use Rattle.kv_parties.specs.Begun.{IsBefore}
 use Rattle.kv_parties.proofs.Rings.{Rings, Course, RingsKeep, IsQuiet, rings_answered, courses_pairs}
-use Rattle.kv_parties.proofs.Lists.{In, count, In-left, In-right, All-In, In-All, In-row}
+use Rattle.kv_parties.proofs.Lists.{In, eq_self, count, In-left, In-right, All-In, In-All, In-row}
 use Rattle.kv_parties.proofs.Lists.{In-row-back, In-filter, In-filter-back, In-map, In-map-back}
 use Rattle.kv_parties.proofs.Lists.{In-flat_map-back, flat_map-append, count-within, sum_below-le}
 use Rattle.kv_parties.proofs.Lists.{sum_below-same, sum_below-zero, sum_below-add, sum_below-swap}
-use Rattle.kv_parties.proofs.Lists.{sum_below-one}
+use Rattle.kv_parties.proofs.Lists.{sum_below-one, at_least}
 use Rattle.kv_parties.proofs.Owned.{IsHere}
 use Rattle.kv_parties.proofs.Agreeing.{weigh, weigh-append, Owns, Fits}
-use Rattle.kv_parties.proofs.Parts.{eq_self, here, all_parts, IsOrdered}
+use Rattle.kv_parties.proofs.Parts.{here, all_parts, IsOrdered}
 use Rattle.kv_parties.proofs.Parts.{parts_ordered, owner-lt, routed_to_owner, weigh-exchanges}
 use Rattle.kv_parties.proofs.Parts.{across_exchanges, within_exchanges, in_answered, out_answered}
 use Rattle.kv_parties.proofs.Coming.{Answers-fewer, SessionPairs, heard_answers, pairs_of_session}
@@ -37,29 +37,48 @@ weigh-row : (f : Pair → ℕ) (n : ℕ) (g : ℕ → List Pair)
 weigh-row f zero g = refl
 weigh-row f (suc n) g = omega (arith, weigh-append f (row n g) (g n), weigh-row f n g)
 
--- what was done for each session is no more than what was done
-weigh-done : (f : Pair → ℕ) (n : ℕ) (history : List Done)
-    → sum_below n (λ s. weigh f (done_for s history)) ≤ weigh f (done_pairs history)
-weigh-done f n [] = omega (arith, sum_below-zero n)
-weigh-done f n (d ∷ history) =
-    let part : (s : ℕ) → weigh f (done_for s (d ∷ history))
-    ≡ cond (nat_eq d.session s) (f d.pair) 0 + weigh f (done_for s history) =
-    λ s. elim (nat_eq d.session s) as (λ b. weigh f (done_pairs
+done-step : (f : Pair → ℕ) (d : Done) (history : List Done) (s : ℕ)
+    → weigh f (done_for s (d ∷ history))
+    ≡ cond (nat_eq d.session s) (f d.pair) 0 + weigh f (done_for s history)
+done-step f d history s = elim (nat_eq d.session s) as (λ b. weigh f (done_pairs
     (cond b (d ∷ filter (λ (e : Done). nat_eq e.session s) history)
     (filter (λ (e : Done). nat_eq e.session s) history)))
     ≡ cond b (f d.pair) 0 + weigh f (done_for s history)) [
       | true ↦ refl
       | false ↦ omega arith
-    ] in
+    ]
+
+-- what was done for each session is no more than what was done
+weigh-done : (f : Pair → ℕ) (n : ℕ) (history : List Done)
+    → sum_below n (λ s. weigh f (done_for s history)) ≤ weigh f (done_pairs history)
+weigh-done f n [] = omega (arith, sum_below-zero n)
+weigh-done f n (d ∷ history) =
     omega (
       arith,
       sum_below-same n (λ s. weigh f (done_for s (d ∷ history)))
           (λ s. cond (nat_eq d.session s) (f d.pair) 0 + weigh f (done_for s history))
-          (λ s lt. part s),
+          (λ s lt. done-step f d history s),
       sum_below-add n (λ s. cond (nat_eq d.session s) (f d.pair) 0)
           (λ s. weigh f (done_for s history)),
       sum_below-one n d.session (f d.pair),
       weigh-done f n history,
+    )
+
+-- and what was done is no more, where each session is one of these
+weigh-known : (f : Pair → ℕ) (n : ℕ) (history : List Done)
+    → AllByRecursion (λ done. done.session < n) history
+    → weigh f (done_pairs history) ≤ sum_below n (λ s. weigh f (done_for s history))
+weigh-known f n [] known = omega arith
+weigh-known f n (d ∷ history) known =
+    omega (
+      arith,
+      sum_below-same n (λ s. weigh f (done_for s (d ∷ history)))
+          (λ s. cond (nat_eq d.session s) (f d.pair) 0 + weigh f (done_for s history))
+          (λ s lt. done-step f d history s),
+      sum_below-add n (λ s. cond (nat_eq d.session s) (f d.pair) 0)
+          (λ s. weigh f (done_for s history)),
+      at_least n d.session (f d.pair) known.0,
+      weigh-known f n history known.1,
     )
 
 module _ (setting : Setting) (before : ℕ → List Write) (rings : Rings) (ranges : ℕ → List Range)
@@ -163,6 +182,36 @@ module _ (setting : Setting) (before : ℕ → List Write) (rings : Rings) (rang
         weigh-done f setting.sessions (keep.workers w lt).history,
       )) w lt
 
+  -- and the worker's own are no more
+  pub many : (f : Pair → ℕ) (w : ℕ) → w < setting.workers
+      → weigh f (own w) ≤ sum_below setting.sessions (λ s. weigh f (pairs_in (rings.answered w s)))
+  many f w lt = each_own (λ w ps.
+      weigh f ps ≤ sum_below setting.sessions (λ s. weigh f (pairs_in (rings.answered w s))))
+      (λ w lt. omega (
+        arith,
+        sum_below-same setting.sessions (λ s. weigh f (pairs_in (rings.answered w s)))
+            (λ s. weigh f (done_for s (keep.workers w lt).history))
+            (λ s low. ap (weigh f) ((keep.workers w lt).parts s low)),
+        weigh-known f setting.sessions (keep.workers w lt).history (keep.workers w lt).known,
+      )) w lt
+
+  -- so all of the workers' own are no more than what was answered
+  pub all_many : (f : Pair → ℕ) → sum_below setting.workers (λ w. weigh f (own w))
+      ≤ weigh f (rings_answered setting rings.answered)
+  all_many f =
+      let of_worker : ℕ → List Pair =
+      λ w. row setting.sessions (λ s. pairs_in (rings.answered w s)) in
+      omega (
+        arith,
+        weigh-row f setting.workers of_worker,
+        sum_below-le setting.workers (λ w. weigh f (own w)) (λ w. weigh f (of_worker w))
+            (λ w lt. omega (
+              arith,
+              weigh-row f setting.sessions (λ s. pairs_in (rings.answered w s)),
+              many f w lt,
+            )),
+      )
+
   pub all_fit : Fits setting own (rings_answered setting rings.answered)
   all_fit =
       let of_worker : ℕ → List Pair =
@@ -233,7 +282,7 @@ module _ (setting : Setting) (before : ℕ → List Write) (rings : Rings) (rang
       ∙ ap pairs_in back.1)
       (In-left p (pairs_in (rings.heard s w)) (pairs_in back.0) i)
 
-  session_fits : (s : ℕ) (lt : s < setting.sessions) (p : Pair) → In p (pairs_in (courses s).groups)
+  pub session_fits : (s : ℕ) (lt : s < setting.sessions) (p : Pair) → In p (pairs_in (courses s).groups)
       → ((w : ℕ) × (w < setting.workers) × In p (own w)) ⊎ IsHere setting.layout p
   session_fits s lt p i =
       let tale = of_session s lt in

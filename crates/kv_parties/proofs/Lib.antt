@@ -11,4 +11,5 @@ mod Recovering
 mod Meeting
 mod Causing
 mod Standing
+mod Spending
 mod Propositions

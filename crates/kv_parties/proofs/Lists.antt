@@ -242,3 +242,19 @@ count-within ranges (y ∷ xs) rises all x =
     (λ (ne : y ≢ x). let rest : count x xs ≤ ranges x = count-within ranges xs rises.1 all.1 x in
     grind (arith, nat_tests))
     (let e : (y ≡ x) ⊎ (y ≢ x) = grind arith in e)
+
+pub eq_self : (n : ℕ) → nat_eq n n ≡ true
+eq_self n = grind (arith, nat_tests)
+
+pub sum_below-at : (n s : ℕ) (f : ℕ → ℕ) → s < n → f s ≤ sum_below n f
+sum_below-at zero s f lt = absurd (omega arith)
+sum_below-at (suc n) s f lt =
+    ⊎_elim (λ (less : s < n). omega (arith, sum_below-at n s f less))
+    (λ (e : s ≡ n). omega (arith, ap f e))
+    (let e : (s < n) ⊎ (s ≡ n) = grind arith in e)
+
+-- one of the numbers below n counts
+pub at_least : (m s k : ℕ) → s < m → k ≤ sum_below m (λ w. cond (nat_eq s w) k 0)
+at_least m s k lt =
+    let one : cond (nat_eq s s) k 0 ≡ k = ap (λ b. cond b k 0) (eq_self s) in
+    omega (arith, sum_below-at m s (λ w. cond (nat_eq s w) k 0) lt, one)

@@ -80,7 +80,7 @@ module _ {F : Type 0} where
     sym (flat_map-append asking xs prefix.0) ∙ ap all_asking prefix.1,
   )
 
-  groups_in-prefix : (xs ys : List (Ask F)) → IsPrefix xs ys → IsPrefix (groups_in xs) (groups_in ys)
+  pub groups_in-prefix : (xs ys : List (Ask F)) → IsPrefix xs ys → IsPrefix (groups_in xs) (groups_in ys)
   groups_in-prefix xs ys prefix = (
     groups_in prefix.0,
     sym (flat_map-append group_of xs prefix.0) ∙ ap groups_in prefix.1,
@@ -93,7 +93,7 @@ module _ {F : Type 0} where
     sym (flat_map-append answered_of xs prefix.0) ∙ ap answered_in prefix.1,
   )
 
-  groups-asking : (messages : List (Ask F)) → groups_in (all_asking messages) ≡ groups_in messages
+  pub groups-asking : (messages : List (Ask F)) → groups_in (all_asking messages) ≡ groups_in messages
   groups-asking [] = refl
   groups-asking (ask.Group seen tasks ∷ messages) =
       ap (λ groups. group_of {F = F} (ask.Group seen tasks) ++ groups) (groups-asking messages)
@@ -187,7 +187,7 @@ courses_of parties s = record {
 
 -- each worker's ranges of stamps
 abbrev pub ranges_of : {F D : Type 0} → Parties F D → ℕ → List Range
-ranges_of parties w = (parties.views w).drawn
+ranges_of parties w = (parties.workers w).view.drawn
 
 module _ {F D : Type 0} (d : disks.Ghosts D) (setting : Setting) (parties : Parties F D)
     (keep : AllKeep d setting parties) where
@@ -215,7 +215,7 @@ module _ {F D : Type 0} (d : disks.Ghosts D) (setting : Setting) (parties : Part
       )
 
   module _ (passed : NonePassed setting parties) where
-    took : (s w : ℕ) (lt : s < setting.sessions) (less : w < setting.workers)
+    pub took : (s w : ℕ) (lt : s < setting.sessions) (less : w < setting.workers)
         → (keep.workers w less).taken s ≡ all_asking (parties.asks_received w s)
     took s w lt less = part-whole ((keep.workers w less).taken s)
         (all_asking (parties.asks_received w s)) ((keep.workers w less).part s lt)

@@ -18,14 +18,11 @@ use Rattle.kv_parties.specs.Groups.{Asked, Answers}
 use Rattle.kv_parties.specs.Sessions.{Handled, IsHandled, Exchange, exchange_pairs, goes_to}
 use Rattle.kv_parties.specs.Sessions.{part_of}
 use Rattle.kv_parties.specs.Sessions.{asked_by, all_asked}
-use Rattle.kv_parties.proofs.Lists.{In, count, In-left, In-right, In-append, All-In, In-All}
+use Rattle.kv_parties.proofs.Lists.{In, eq_self, count, In-left, In-right, In-append, All-In, In-All}
 use Rattle.kv_parties.proofs.Lists.{In-filter, In-filter-back, In-map, In-map-back}
-use Rattle.kv_parties.proofs.Lists.{In-filter_map-back, sum_below-same, sum_below-add}
+use Rattle.kv_parties.proofs.Lists.{In-filter_map-back, sum_below-same, sum_below-add, at_least}
 use Rattle.kv_parties.proofs.Owned.{IsHere, stampless}
 use Rattle.kv_parties.proofs.Agreeing.{weigh, weigh-append, stamp-In}
-
-pub eq_self : (n : ℕ) → nat_eq n n ≡ true
-eq_self n = grind (arith, nat_tests)
 
 some-of : {X : Type 0} (o : Option X) → IsSome o → (x : X) × (o ≡ Some x)
 some-of None s = absurd (cc)
@@ -158,15 +155,6 @@ module _ (layout : Layout) (n : ℕ) (some : 1 ≤ n) where
             | true ↦ λ q. tail (stamp_of h.pair.reply) (stamps (part_of n w handled)) q
             | false ↦ λ q. q
           ]) p
-
-  at_least : (m s k : ℕ) → s < m → k ≤ sum_below m (λ w. cond (nat_eq s w) k 0)
-  at_least zero s k lt = absurd (omega arith)
-  at_least (suc m) s k lt =
-      ⊎_elim (λ (less : s < m). let rest : k ≤ sum_below m (λ w. cond (nat_eq s w) k 0) =
-      at_least m s k less in omega arith)
-      (λ (e : s ≡ m). let yes_eq : nat_eq s m ≡ true = (ap (nat_eq s) (sym e) ∙ eq_self s) in
-      let last : cond (nat_eq s m) k 0 ≡ k = ap (λ b. cond b k 0) yes_eq in omega arith)
-      (let e : (s < m) ⊎ (s ≡ m) = grind arith in e)
 
   module _ (f : Pair → ℕ) (none : (p : Pair) → IsHere layout p → f p ≡ 0) where
     -- a pair of a group counts in a worker's part, or not at all

@@ -13,6 +13,7 @@ use Rattle.kv_base.specs.declared.reply.Reply.TheVariants.{BadKey, TooLarge, Ful
 use Rattle.kv_base.specs.declared.reply.Reply.TheVariants.{DiskFault, Unsure, Closed, StampsSpent}
 use Rattle.kv_base.specs.declared.reply.Reply.TheVariants.{Malformed}
 use Rattle.kv_model.specs.History.{Write, value_at}
+use Rattle.kv_model.specs.Items.{SameValue}
 use Rattle.kv_model.specs.Pairwise.{Pairwise}
 use Rattle.kv_model.specs.Layout.{Layout}
 use Rattle.kv_model.specs.Pairs.{Pair, writes, stamps, stamp_of, key_of}
@@ -148,9 +149,9 @@ order-prop groups =
     hlevel (props, a, b)
 
 causes-prop : (setting : Setting) (worker : ℕ) (before : List Write) (runs : List Range)
-    (faults faults' : ℕ) (pairs : List Pair)
-    → IsProp (HasCauses setting worker before runs faults faults' pairs)
-causes-prop setting worker before runs faults faults' pairs =
+    (faults faults' : ℕ) (closed : Bool) (pairs : List Pair)
+    → IsProp (HasCauses setting worker before runs faults faults' closed pairs)
+causes-prop setting worker before runs faults faults' closed pairs =
     let owned : List Pair = owned_pairs setting.workers worker pairs in
     let history : List Write = owned_writes setting.workers worker (all_writes before pairs) in
     let a : IsProp (AllByRecursion (λ pair. pair.reply ≡ Closed → any_unsure owned ≡ true) owned) =
@@ -167,6 +168,12 @@ leaves-prop : {D : Type 0} (d : disks.Ghosts D) (setting : Setting) (worker : �
     → IsProp (LeavesPrefixes d setting worker first now before pairs)
 leaves-prop d setting worker first now before pairs = hlevel props
 
+same_value-prop : (told : Bool) (a b : Option (List ℕ)) → IsProp (SameValue told a b)
+same_value-prop told None None = hlevel props
+same_value-prop told None (Some b) = hlevel props
+same_value-prop told (Some a) None = hlevel props
+same_value-prop told (Some a) (Some b) = hlevel props
+
 pub stands-prop : {F D : Type 0} (d : disks.Ghosts D) (setting : Setting) (parties : Parties F D)
     (pairs : List Pair) → IsProp (Stands d setting parties pairs)
-stands-prop d setting parties pairs = hlevel (props, agrees-prop, order-prop, causes-prop, leaves-prop)
+stands-prop d setting parties pairs = hlevel (props, agrees-prop, order-prop, causes-prop, same_value-prop, leaves-prop)

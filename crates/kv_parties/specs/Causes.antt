@@ -128,12 +128,13 @@ all_writes before pairs = before ++ writes pairs ++ unsure_writes pairs
 abbrev pub most_tasks : ℕ
 most_tasks = 512
 
--- a worker's batches, from these writes on: each refusal has its cause, and the disk's count of
--- faults rose once for each batch that tells of a fault
+-- a worker's batches, from these writes on: each refusal has its cause, the disk's count of faults
+-- rose once for each batch that tells of a fault, and the worker is closed behind an unsure write
 pub record KeepsCauses (setting : Setting) (before : List Write) (runs : List Range)
-    (faults faults' : ℕ) (batches : List (List Pair)) : Type 0 where
+    (faults faults' : ℕ) (closed : Bool) (batches : List (List Pair)) : Type 0 where
   pub few : AllByRecursion (λ batch. length batch ≤ most_tasks) batches
   pub closes : AreClosedBehind false batches
+  pub closed_is : closed ≡ any_unsure (pairs_in batches)
   pub counted : faults' ≡ faults_behind batches faults
   pub spent : AllByRecursion (IsSpentAt runs) (pairs_in batches)
   pub full : IsTrue setting.told → AllByRecursion (IsFullAt setting.layout setting.slots
@@ -142,11 +143,12 @@ pub record KeepsCauses (setting : Setting) (before : List Write) (runs : List Ra
 -- of the pairs about keys that the worker owns: each refusal has its cause, at most so many tell of
 -- one rise of the disk's count of faults, and at most so many are unsure
 pub record HasCauses (setting : Setting) (worker : ℕ) (before : List Write) (runs : List Range)
-    (faults faults' : ℕ) (pairs : List Pair) : Type 0 where
+    (faults faults' : ℕ) (closed : Bool) (pairs : List Pair) : Type 0 where
   pub faulty : faults' < 2 ^ 64 - 1
       → count_faults (owned_pairs setting.workers worker pairs) ≤ most_tasks * (faults' - faults)
   pub unsure : count_unsure (owned_pairs setting.workers worker pairs) ≤ most_tasks
-  pub closed : AllByRecursion (λ pair. pair.reply ≡ Closed
+  pub closed_is : closed ≡ any_unsure (owned_pairs setting.workers worker pairs)
+  pub closes : AllByRecursion (λ pair. pair.reply ≡ Closed
       → any_unsure (owned_pairs setting.workers worker pairs) ≡ true)
       (owned_pairs setting.workers worker pairs)
   pub spent : AllByRecursion (IsSpentAt runs) (owned_pairs setting.workers worker pairs)

@@ -1,37 +1,40 @@
 -- What the promises of all parties say together.
-use Rattle.std.specs.Prelude.{◌≡◌, ◌≤◌, ◌<◌, ℕ, List, [], ◌∷◌, ◌++◌, length, Bool, true, false}
+use Rattle.std.specs.Prelude.{◌≡◌, ◌≤◌, ◌<◌, ◌+◌, ◌^◌, ℕ, List, [], ◌∷◌, ◌++◌, length, Some}
+use Rattle.std.specs.Prelude.{Bool, true, false}
 use mathlib.Core.List.{IsPrefix}
+use Rattle.kv_base.specs.Image.{Image}
+use Rattle.kv_base.specs.Partition.{owner_of}
 use Rattle.kv_base.specs.declared.request.Request.{Request}
 use Rattle.kv_disk.specs.declared.disk.Disk as disks
 use Rattle.kv_model.specs.Agreement.{AgreesWithMap}
-use Rattle.kv_model.specs.History.{Write}
+use Rattle.kv_model.specs.History.{Write, value_at}
+use Rattle.kv_model.specs.Items.{SameValue}
 use Rattle.kv_model.specs.Order.{RespectsOrder}
-use Rattle.kv_model.specs.Pairs.{Pair, pairs_in}
+use Rattle.kv_model.specs.Pairs.{Pair, pairs_in, writes}
 use Rattle.kv_ring.specs.declared.message.Ask.{Ask}
 use Rattle.kv_ring.specs.declared.message.Answer.{Answer}
-use Rattle.kv_stamps.specs.Ranges.{among}
-use Rattle.kv_stamps.specs.declared.view.View.{View}
+use Rattle.kv_stamps.specs.Ranges.{among, between}
+use Rattle.kv_stamps.specs.Rule.{times_in}
+use Rattle.kv_stamps.specs.Seats.{first_spent}
 use Rattle.kv_parties.specs.Begun.{IsBefore, all_before}
 use Rattle.kv_parties.specs.Causes.{HasCauses}
 use Rattle.kv_parties.specs.Messages.{all_asking, answered_in, takes_message}
-use Rattle.kv_parties.specs.Promises.{WorkerPromise, SessionPromise}
-use Rattle.kv_parties.specs.Recovered.{LeavesPrefixes}
+use Rattle.kv_parties.specs.Promises.{WorkerData, WorkerPromise, SessionPromise}
+use Rattle.kv_parties.specs.Recovered.{Recovers, LeavesPrefixes}
 use Rattle.kv_parties.specs.Rows.{sum_below, row}
 use Rattle.kv_parties.specs.Setting.{Setting}
+use Rattle.kv_parties.specs.Workers.{done_pairs}
 
 -- what all parties have: the messages and answers that each sent to each and received, by session
--- and worker or by worker and session; each worker's earlier writes, its seat's view, and its disk as
--- it was and as it is; each session's answered groups, the requests of the one under way, and whether
--- it waits
+-- and worker or by worker and session; each worker's earlier writes, and what it has beside its ring
+-- ends; each session's answered groups, the requests of the one under way, and whether it waits
 pub record Parties (F D : Type 0) : Type 0 where
   pub asks_sent : ℕ → ℕ → List (Ask F)
   pub asks_received : ℕ → ℕ → List (Ask F)
   pub answers_sent : ℕ → ℕ → List (Answer F)
   pub answers_received : ℕ → ℕ → List (Answer F)
   pub before : ℕ → List Write
-  pub views : ℕ → View
-  pub first : ℕ → D
-  pub now : ℕ → D
+  pub workers : ℕ → WorkerData D
   pub groups : ℕ → List (List Pair)
   pub requests : ℕ → List Request
   pub waiting : ℕ → Bool
@@ -52,7 +55,7 @@ module _ {F D : Type 0} where
   pub record AllKeep (d : disks.Ghosts D) (setting : Setting) (parties : Parties F D) : Type 0 where
     pub workers : (worker : ℕ) → worker < setting.workers → WorkerPromise d setting worker
         (parties.before worker) (parties.asks_received worker) (parties.answers_sent worker)
-        (parties.views worker) (parties.first worker) (parties.now worker)
+        (parties.workers worker)
     pub sessions : (session : ℕ) → session < setting.sessions → SessionPromise setting
         (parties.asks_sent session) (parties.answers_received session) (parties.groups session)
         (parties.requests session) (parties.waiting session)
@@ -61,7 +64,7 @@ module _ {F D : Type 0} where
     pub answers : (session worker : ℕ) → session < setting.sessions → worker < setting.workers
         → IsPrefix (parties.answers_received session worker) (parties.answers_sent worker session)
     pub apart : (number : ℕ)
-        → sum_below setting.workers (λ worker. among number (parties.views worker).drawn) ≤ 1
+        → sum_below setting.workers (λ worker. among number (parties.workers worker).view.drawn) ≤ 1
 
   -- each message that a worker received and that has an answer is answered
   abbrev pub NonePassed : Setting → Parties F D → Type 0
@@ -75,7 +78,8 @@ module _ {F D : Type 0} where
       → parties.waiting session ≡ false
 
   -- the pairs are those of one plain map that began with what all disks kept, each session's stamps
-  -- are in its order, each refusal has its cause, and each disk recovers a prefix of the writes
+  -- are in its order, each refusal has its cause, each open worker's store has its part of the map,
+  -- and each disk recovers a prefix of the writes
   pub record Stands (d : disks.Ghosts D) (setting : Setting) (parties : Parties F D)
       (pairs : List Pair) : Type 0 where
     pub right : AgreesWithMap setting.told setting.layout (all_before setting parties.before)
@@ -83,10 +87,17 @@ module _ {F D : Type 0} where
     pub ordered : (session : ℕ) → session < setting.sessions
         → RespectsOrder (parties.groups session)
     pub causes : (worker : ℕ) → worker < setting.workers → HasCauses setting worker
-        (all_before setting parties.before) (parties.views worker).spent
-        (d.faults (parties.first worker)) (d.faults (parties.now worker)) pairs
+        (all_before setting parties.before) (parties.workers worker).view.spent
+        (d.faults (parties.workers worker).first) (d.faults (parties.workers worker).now)
+        (parties.workers worker).closed pairs
+    pub map : (worker : ℕ) → worker < setting.workers → (parties.workers worker).closed ≡ false
+        → (stamp : ℕ) → (parties.workers worker).view.seen ≤ stamp + 1 → (key : List ℕ)
+        → owner_of key setting.workers ≡ worker
+        → SameValue setting.told ((parties.workers worker).store.value key)
+        (value_at (all_before setting parties.before ++ writes pairs) stamp key)
     pub leaves : (worker : ℕ) → worker < setting.workers → LeavesPrefixes d setting worker
-        (parties.first worker) (parties.now worker) (all_before setting parties.before) pairs
+        (parties.workers worker).first (parties.workers worker).now
+        (all_before setting parties.before) pairs
 
 -- where all parties keep their promises and no message was passed over, this stands of all pairs that
 -- workers answered, and where no session waits, of those that the sessions answered
@@ -113,6 +124,36 @@ OwesNone F D d = (setting : Setting) (parties : Parties F D) (session worker : �
     → parties.answers_sent worker session ≡ pushed ++ waiting
     → IsPrefix (parties.answers_received session worker) pushed
     → (waiting ≡ []) × (takes_message setting.layout worker setting.workers message ≡ true)
+
+-- an image that recovers a prefix of what its worker has answered, and holds what it had answered
+-- earlier, does so of what all workers have
+abbrev pub RecoveryJoins : (F D : Type 0) → disks.Ghosts D → Type 0
+RecoveryJoins F D d = (setting : Setting) (earlier parties : Parties F D)
+    → earlier.before ≡ parties.before → IsBefore setting parties.before
+    → (kept : AllKeep d setting earlier) → NonePassed setting earlier
+    → (keep : AllKeep d setting parties) → NonePassed setting parties
+    → (worker : ℕ) (image : Image) → worker < setting.workers
+    → ((lt : worker < setting.workers) → Recovers setting worker image (parties.before worker)
+    (done_pairs (kept.workers worker lt).groups.history)
+    (done_pairs (keep.workers worker lt).groups.history))
+    → Recovers setting worker image (all_before setting parties.before)
+    (all_answered setting earlier) (all_answered setting parties)
+
+-- each number from the first stamp up to the counter's next one is just once in a range, a gap or a
+-- run of a worker's seat, and no other number is
+abbrev pub CountsAll : {F D : Type 0} → Setting → Parties F D → ℕ → Type 0
+CountsAll setting parties next = (number : ℕ)
+    → sum_below setting.workers (λ worker. times_in number (parties.workers worker).view)
+    ≡ between number (setting.floor + 1) next
+
+-- where all numbers that the counter gave are the workers', one met no stamps left only where the
+-- floor and the number of answered requests pass the last stamp
+abbrev pub SpentHasCause : (F D : Type 0) → disks.Ghosts D → Type 0
+SpentHasCause F D d = (setting : Setting) (parties : Parties F D) (next : ℕ)
+    → IsBefore setting parties.before → AllKeep d setting parties → NonePassed setting parties
+    → CountsAll setting parties next → (worker number : ℕ) → worker < setting.workers
+    → first_spent (parties.workers worker).view.spent ≡ Some number
+    → (2 ^ 62 ≤ setting.floor + length (all_answered setting parties)) × (2 ^ 62 < number + 512)
 
 -- what stands is one fact, however it is shown
 abbrev pub StandsOnce : (F D : Type 0) → disks.Ghosts D → Type 0

@@ -3,6 +3,7 @@ pub mod Setting
 pub mod Begun
 pub mod Causes
 pub mod Groups
+pub mod Stamps
 pub mod Workers
 pub mod Sessions
 pub mod Messages

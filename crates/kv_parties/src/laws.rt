@@ -1,5 +1,6 @@
 ghost use Rattle.kv_parties.specs.Begun.{KeptItemsBegin};
-ghost use Rattle.kv_parties.specs.Joined.{PromisesJoin, PromisesEnd, OwesNone, StandsOnce};
+ghost use Rattle.kv_parties.specs.Joined.{PromisesJoin, PromisesEnd, OwesNone, RecoveryJoins};
+ghost use Rattle.kv_parties.specs.Joined.{SpentHasCause, StandsOnce};
 
 use kv_disk::Disk;
 
@@ -24,6 +25,16 @@ pub fn promises_end<F, D: Disk>()
 /// message.
 pub fn owes_none<F, D: Disk>()
     ensures { OwesNone F D ⟦<D as Disk>⟧ }
+{}
+
+/// An image that recovers a prefix of its worker's writes does so of the writes of all workers.
+pub fn recovery_joins<F, D: Disk>()
+    ensures { RecoveryJoins F D ⟦<D as Disk>⟧ }
+{}
+
+/// Where a worker meets no stamps left, the floor and the number of requests pass the last one.
+pub fn spent_has_cause<F, D: Disk>()
+    ensures { SpentHasCause F D ⟦<D as Disk>⟧ }
 {}
 
 /// What stands is one fact, so that it follows also from promises that tell only that there is a

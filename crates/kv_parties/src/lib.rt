@@ -3,4 +3,5 @@
 
 mod laws;
 
-pub use laws::{kept_items_begin, owes_none, promises_end, promises_join, stands_once};
+pub use laws::{kept_items_begin, owes_none, promises_end, promises_join, recovery_joins};
+pub use laws::{spent_has_cause, stands_once};

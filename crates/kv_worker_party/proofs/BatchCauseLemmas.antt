@@ -408,37 +408,35 @@ spent-later runs more pairs (inl none) all =
 spent-later runs more pairs (inr same) all =
     subst (λ rs. AllByRecursion (IsSpentAt rs) pairs) (sym same) all
 
--- with one batch more all refusals have their causes still, and the worker is closed exactly where a
--- write was unsure
+-- with one batch more all refusals have their causes still
 pub causes-push : {D I : Type 0} (d : disks.Ghosts D) (setting : Setting) (old now : WorkerView D I)
     (view later : View) (before : List Write) (faults : ℕ) (batches : List (List Pair))
     (group : List Pair) → setting.told ≡ d.tells → setting.layout ≡ all_classes
-    → KeepsCauses setting before view.spent faults (d.faults old.store.disk.disk) batches
-    → any_unsure (pairs_in batches) ≡ old.store.closed → length group ≤ 512
+    → KeepsCauses setting before view.spent faults (d.faults old.store.disk.disk) old.store.closed
+    batches → length group ≤ 512
     → BatchCauses d setting.slots old now view later before (pairs_in batches) group
     → KeepsCauses setting before later.spent faults (d.faults now.store.disk.disk)
-    (batches ++ group ∷ []) × (any_unsure (pairs_in (batches ++ group ∷ [])) ≡ now.store.closed)
-causes-push d setting old now view later before faults batches group told layout causes closed few
-    batch = (
-      record {
-        few = few-push batches group causes.few few;
-        closes = closed-push false batches group causes.closes
-            (subst (λ b. AllByRecursion (IsClosedAt b) group) (sym closed) batch.closed);
-        counted = batch.counted ∙ ap (λ n. cond (any_fault group) (next_count n) n) causes.counted
-            ∙ sym (faults-push batches group faults);
-        spent = subst (AllByRecursion (IsSpentAt later.spent)) (sym (pairs-push batches group))
-            (All-append (IsSpentAt later.spent) (pairs_in batches) group
-            (spent-later view.spent later.spent (pairs_in batches) batch.stays causes.spent)
-            batch.spent);
-        full = λ is_told. subst (λ ps. AllByRecursion (IsFullAt setting.layout setting.slots
-            (all_writes before ps)) ps) (sym (pairs-push batches group))
-            (subst (λ l. AllByRecursion (IsFullAt l setting.slots
-            (all_writes before (pairs_in batches ++ group))) (pairs_in batches ++ group))
-            (sym layout)
-            (batch.full (subst IsTrue told is_told)
-            (subst (λ l. AllByRecursion (IsFullAt l setting.slots (all_writes before
-            (pairs_in batches))) (pairs_in batches)) layout (causes.full is_told))));
-      },
-      ap any_unsure (pairs-push batches group) ∙ any_unsure-append (pairs_in batches) group
-          ∙ ap (λ b. b || any_unsure group) closed ∙ sym batch.closes,
-    )
+    now.store.closed (batches ++ group ∷ [])
+causes-push d setting old now view later before faults batches group told layout causes few batch =
+    record {
+      few = few-push batches group causes.few few;
+      closes = closed-push false batches group causes.closes
+          (subst (λ b. AllByRecursion (IsClosedAt b) group) causes.closed_is batch.closed);
+      closed_is = batch.closes ∙ ap (λ b. b || any_unsure group) causes.closed_is
+          ∙ sym (ap any_unsure (pairs-push batches group)
+          ∙ any_unsure-append (pairs_in batches) group);
+      counted = batch.counted ∙ ap (λ n. cond (any_fault group) (next_count n) n) causes.counted
+          ∙ sym (faults-push batches group faults);
+      spent = subst (AllByRecursion (IsSpentAt later.spent)) (sym (pairs-push batches group))
+          (All-append (IsSpentAt later.spent) (pairs_in batches) group
+          (spent-later view.spent later.spent (pairs_in batches) batch.stays causes.spent)
+          batch.spent);
+      full = λ is_told. subst (λ ps. AllByRecursion (IsFullAt setting.layout setting.slots
+          (all_writes before ps)) ps) (sym (pairs-push batches group))
+          (subst (λ l. AllByRecursion (IsFullAt l setting.slots
+          (all_writes before (pairs_in batches ++ group))) (pairs_in batches ++ group))
+          (sym layout)
+          (batch.full (subst IsTrue told is_told)
+          (subst (λ l. AllByRecursion (IsFullAt l setting.slots (all_writes before
+          (pairs_in batches))) (pairs_in batches)) layout (causes.full is_told))));
+    }

@@ -9,6 +9,7 @@ pub mod ReplyLemmas
 pub mod CauseLemmas
 pub mod BatchCauseLemmas
 pub mod WholeLemmas
+pub mod CountedLemmas
 pub mod SeatLemmas
 pub mod KeepLemmas
 pub mod TurnLemmas

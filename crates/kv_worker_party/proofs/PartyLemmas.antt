@@ -1,7 +1,7 @@
 -- What a party's turn needs and leaves, by what it gathers, serves and delivers.
 use Rattle.std.proofs.Common.{◌≡◌, ◌≢◌, ◌⊎◌, inl, inr, ⊎_elim, ℕ, zero, suc, ◌+◌, ◌-◌, ◌*◌, ◌^◌, ◌<◌, ◌≤◌}
 use Rattle.std.proofs.Common.{List, [], ◌∷◌, ◌++◌, map, length, Option, None, Some, Bool, true, false, max}
-use Rattle.std.proofs.Common.{append-nil, refl, sym, ap, subst, subst₂, ◌∙◌, arith, is_some, cond, not, ◌&&◌, ◌||◌, true≢false}
+use Rattle.std.proofs.Common.{All, append-nil, refl, sym, ap, subst, subst₂, ◌∙◌, arith, is_some, cond, not, ◌&&◌, ◌||◌, true≢false}
 use Rattle.std.specs.Prelude.{option_to_list}
 use Rattle.std.specs.List.{AllByRecursion}
 use Rattle.std.proofs.lemmas.Bool.{and_parts}
@@ -19,9 +19,10 @@ use Rattle.kv_parties.specs.Groups.{Answers}
 use Rattle.kv_parties.specs.Messages.{groups_in, answered_in, all_asking, IsPartOf, IsWhole}
 use Rattle.kv_parties.specs.Causes.{KeepsCauses, all_writes}
 use Rattle.kv_parties.specs.Workers.{done_pairs, done_for}
+use Rattle.kv_parties.specs.Stamps.{IsMet, size_of}
 use Rattle.kv_stamps.specs.Ranges.{among}
 use Rattle.kv_worker_party.specs.Laws.{PartyLaws}
-use Rattle.kv_worker_party.specs.Party.{BeginsWith, Holds, LeavesEach, StoodAndGoesOn, answers_to, setting_of}
+use Rattle.kv_worker_party.specs.Party.{BeginsWith, Holds, IsUnused, LeavesEach, StoodAndGoesOn, answers_to, setting_of}
 use Rattle.kv_worker_party.proofs.StampedLemmas.{has-weaker}
 use Rattle.kv_worker_party.proofs.TurnLemmas.{holds-turn, leaves-prefixes}
 use Rattle.kv_base.specs.Reserved.{Reserved}
@@ -405,21 +406,21 @@ answered-length old new replies are =
 -- the promise stood, and goes on
 pub goes-from : {D I F : Type 0} (laws : PartyLaws) (d : disks.Ghosts D) (i : indexes.Ghosts I)
     (first old now : WorkerView D I) (ends new : Ends (Answer F) (Ask F) 8)
-    (connections after : List (Connection F)) (view later : View) (turn : Turn)
+    (connections after : List (Connection F)) (view later : View) (lifted : Bool) (turn : Turn)
     → (1 ≤ view.start) × (view.start ≤ view.seen)
     → ((before : List Write) → BeginsWith d i first before (view.start - 1)
-    → ∥ Holds d i view.start (peers ends) first old ends connections view before ∥₁)
+    → ∥ Holds d i view.start (peers ends) first old ends connections view lifted before ∥₁)
     → Turns d i old now ends new connections after view later turn
     → (before : List Write) → BeginsWith d i first before (view.start - 1)
     → ∥ StoodAndGoesOn d i view.start (peers ends) first old now ends new connections after view
-    later before ∥₁
-goes-from {D = D} {I = I} {F = F} laws d i first old now ends new connections after view later turn
-    started promise t before begins =
+    later lifted before ∥₁
+goes-from {D = D} {I = I} {F = F} laws d i first old now ends new connections after view later lifted
+    turn started promise t before begins =
     ∥∥₁_map (promise before begins)
-    (λ (h : Holds d i view.start (peers ends) first old ends connections view before). (
+    (λ (h : Holds d i view.start (peers ends) first old ends connections view lifted before). (
       h,
       holds-turn laws d i view.start (peers ends) first old now ends new connections after view
-          later turn before h started
+          later turn lifted before h started
           (All-map (λ write. write.stamp ≤ view.start - 1) (λ write. write.stamp < view.seen) before
           (λ write le. omega (arith, le, started.0, started.1)) begins.below) refl t,
     ))
@@ -427,88 +428,116 @@ goes-from {D = D} {I = I} {F = F} laws d i first old now ends new connections af
 -- the promise goes on
 pub goes-on : {D I F : Type 0} (laws : PartyLaws) (d : disks.Ghosts D) (i : indexes.Ghosts I)
     (first old now : WorkerView D I) (ends new : Ends (Answer F) (Ask F) 8)
-    (connections after : List (Connection F)) (view later : View) (turn : Turn)
+    (connections after : List (Connection F)) (view later : View) (lifted : Bool) (turn : Turn)
     → (1 ≤ view.start) × (view.start ≤ view.seen)
     → ((before : List Write) → BeginsWith d i first before (view.start - 1)
-    → ∥ Holds d i view.start (peers ends) first old ends connections view before ∥₁)
+    → ∥ Holds d i view.start (peers ends) first old ends connections view lifted before ∥₁)
     → Turns d i old now ends new connections after view later turn → later.start ≡ view.start
     → (before : List Write) → BeginsWith d i first before (later.start - 1)
-    → ∥ Holds d i later.start (peers new) first now new after later before ∥₁
-goes-on {D = D} {I = I} {F = F} laws d i first old now ends new connections after view later turn
-    started promise t start_is before begins =
-    let P : ℕ → ℕ → Type 0 = λ m n. Holds d i m n first now new after later before in
-    ∥∥₁_map (goes-from laws d i first old now ends new connections after view later turn started
-    promise t before (subst (λ n. BeginsWith d i first before (n - 1)) start_is begins))
+    → ∥ Holds d i later.start (peers new) first now new after later lifted before ∥₁
+goes-on {D = D} {I = I} {F = F} laws d i first old now ends new connections after view later lifted
+    turn started promise t start_is before begins =
+    let P : ℕ → ℕ → Type 0 = λ m n. Holds d i m n first now new after later lifted before in
+    ∥∥₁_map (goes-from laws d i first old now ends new connections after view later lifted turn
+    started promise t before (subst (λ n. BeginsWith d i first before (n - 1)) start_is begins))
     (λ (g : StoodAndGoesOn d i view.start (peers ends) first old now ends new connections after view
-    later before). subst₂ P (sym start_is) (sym t.rings.peers) g.1.holds)
+    later lifted before). subst₂ P (sym start_is) (sym t.rings.peers) g.1.holds)
 
--- the promise stays where only the seat looked, raised or nothing was drawn
+-- a seat that only looked, or was raised from outside, which is noted
+pub record Lifts (view later : View) (lifted raised : Bool) : Type 0 where
+  pub stays : Stayed view later
+  pub spent : later.spent ≡ view.spent
+  pub gaps : raised ≡ false → (lifted ≡ false) × (later.gaps ≡ view.gaps)
+
+-- the promise stays where only the seat looked or was raised
 pub goes-later : {D I F : Type 0} (d : disks.Ghosts D) (i : indexes.Ghosts I)
     (start sessions : ℕ) (first now : WorkerView D I) (ends : Ends (Answer F) (Ask F) 8)
-    (connections : List (Connection F)) (view later : View) (before : List Write)
-    → Holds d i start sessions first now ends connections view before → Stayed view later
-    → later.spent ≡ view.spent
-    → Holds d i start sessions first now ends connections later before
-goes-later d i start sessions first now ends connections view later before h stays spent = record {
-  promise = record {
-    taken = h.promise.taken;
-    part = h.promise.part;
-    each = h.promise.each;
-    whole = h.promise.whole;
-    groups = record {
-      history = h.promise.groups.history;
-      right = h.promise.groups.right;
-      rising = h.promise.groups.rising;
-      drawn = subst (λ ranges. AllByRecursion (λ stamp. 1 ≤ among stamp ranges)
-          (stamps (done_pairs h.promise.groups.history))) (sym stays.drawn) h.promise.groups.drawn;
-      owned = h.promise.groups.owned;
-      known = h.promise.groups.known;
-      parts = h.promise.groups.parts;
-      order = h.promise.groups.order;
-    };
-    batches = h.promise.batches;
-    same = h.promise.same;
-    causes = subst (λ runs. KeepsCauses (setting_of d.tells start sessions first.store.workers
-        first.store.limits.slots) before runs (d.faults first.store.disk.disk)
-        (d.faults now.store.disk.disk) h.promise.batches) (sym spent) h.promise.causes;
-    leaves = h.promise.leaves;
-  };
-  paired = h.paired;
-  low = has-weaker (λ stamp. stamp < view.seen) (λ stamp. stamp < later.seen)
-      (λ stamp lt. omega (arith, lt, stays.up)) (done_pairs h.promise.groups.history) h.low;
-  follows = λ open_ stamp le. h.follows open_ stamp (omega (arith, le, stays.up));
-  sure = h.sure;
-  closed = h.closed;
-  leaves = h.leaves;
-  same = h.same;
-}
+    (connections : List (Connection F)) (view later : View) (lifted raised : Bool)
+    (before : List Write)
+    → Holds d i start sessions first now ends connections view lifted before
+    → Lifts view later lifted raised
+    → Holds d i start sessions first now ends connections later raised before
+goes-later d i start sessions first now ends connections view later lifted raised before h lifts =
+    record {
+      gaps = h.gaps;
+      gaps_are = λ is. let l = lifts.gaps is in h.gaps_are l.0 ∙ sym l.1;
+      promise = record {
+        taken = h.promise.taken;
+        part = h.promise.part;
+        each = h.promise.each;
+        whole = h.promise.whole;
+        groups = record {
+          history = h.promise.groups.history;
+          right = h.promise.groups.right;
+          rising = h.promise.groups.rising;
+          drawn = subst (λ ranges. AllByRecursion (λ stamp. 1 ≤ among stamp ranges)
+              (stamps (done_pairs h.promise.groups.history))) (sym lifts.stays.drawn)
+              h.promise.groups.drawn;
+          owned = h.promise.groups.owned;
+          known = h.promise.groups.known;
+          parts = h.promise.groups.parts;
+          order = h.promise.groups.order;
+        };
+        batches = h.promise.batches;
+        same = h.promise.same;
+        stamps = record {
+          low = All-map (λ stamp. stamp < view.seen) (λ stamp. stamp < later.seen)
+              (stamps (pairs_in h.promise.batches))
+              (λ stamp lt. omega (arith, lt, lifts.stays.up)) h.promise.stamps.low;
+          few =
+              let a = h.promise.stamps.few in
+              let b = ap size_of lifts.stays.drawn in
+              let c = ap size_of lifts.spent in
+              omega (arith, a, b, c);
+          limits = subst (All IsMet) (sym lifts.spent) h.promise.stamps.limits;
+          gaps = h.promise.stamps.gaps;
+        };
+        causes = subst (λ runs. KeepsCauses (setting_of d.tells start sessions first.store.workers
+            first.store.limits.slots) before runs (d.faults first.store.disk.disk)
+            (d.faults now.store.disk.disk) now.store.closed h.promise.batches) (sym lifts.spent)
+            h.promise.causes;
+        map = λ open_ stamp le. h.promise.map open_ stamp (omega (arith, le, lifts.stays.up));
+        leaves = h.promise.leaves;
+      };
+      paired = h.paired;
+      low = has-weaker (λ stamp. stamp < view.seen) (λ stamp. stamp < later.seen)
+          (λ stamp lt. omega (arith, lt, lifts.stays.up)) (done_pairs h.promise.groups.history)
+          h.low;
+      sure = h.sure;
+      leaves = h.leaves;
+      same = h.same;
+    }
 
 pub later-promise : {D I F : Type 0} (d : disks.Ghosts D) (i : indexes.Ghosts I)
     (first now : WorkerView D I) (ends : Ends (Answer F) (Ask F) 8)
-    (connections : List (Connection F)) (view later : View) → Stayed view later
-    → later.spent ≡ view.spent
+    (connections : List (Connection F)) (view later : View) (lifted raised : Bool)
+    → Lifts view later lifted raised
     → ((before : List Write) → BeginsWith d i first before (view.start - 1)
-    → ∥ Holds d i view.start (peers ends) first now ends connections view before ∥₁)
+    → ∥ Holds d i view.start (peers ends) first now ends connections view lifted before ∥₁)
     → (before : List Write) → BeginsWith d i first before (later.start - 1)
-    → ∥ Holds d i later.start (peers ends) first now ends connections later before ∥₁
-later-promise d i first now ends connections view later stays spent promise before begins =
-    ∥∥₁_map (promise before (subst (λ n. BeginsWith d i first before (n - 1)) stays.start begins))
-    (λ (h : Holds d i view.start (peers ends) first now ends connections view before).
-    subst (λ m. Holds d i m (peers ends) first now ends connections later before) (sym stays.start)
-    (goes-later d i view.start (peers ends) first now ends connections view later before h stays
-    spent))
+    → ∥ Holds d i later.start (peers ends) first now ends connections later raised before ∥₁
+later-promise d i first now ends connections view later lifted raised lifts promise before begins =
+    ∥∥₁_map
+    (promise before (subst (λ n. BeginsWith d i first before (n - 1)) lifts.stays.start begins))
+    (λ (h : Holds d i view.start (peers ends) first now ends connections view lifted before).
+    subst (λ m. Holds d i m (peers ends) first now ends connections later raised before)
+    (sym lifts.stays.start)
+    (goes-later d i view.start (peers ends) first now ends connections view later lifted raised
+    before h lifts))
 
 -- the promise stays where the ends only looked
 pub looked-promise : {D I F : Type 0} (d : disks.Ghosts D) (i : indexes.Ghosts I)
     (start : ℕ) (first now : WorkerView D I) (ends new : Ends (Answer F) (Ask F) 8) (peer : ℕ)
-    (connections : List (Connection F)) (view : View) (before : List Write)
+    (connections : List (Connection F)) (view : View) (lifted : Bool) (before : List Write)
     → Looked peer ends new
-    → ∥ Holds d i start (peers ends) first now ends connections view before ∥₁
-    → ∥ Holds d i start (peers new) first now new connections view before ∥₁
-looked-promise {F = F} d i start first now ends new peer connections view before looked promise =
-    ∥∥₁_map promise (λ (h : Holds d i start (peers ends) first now ends connections view before).
-    subst (λ n. Holds d i start n first now new connections view before) (sym looked.rings.peers)
+    → ∥ Holds d i start (peers ends) first now ends connections view lifted before ∥₁
+    → ∥ Holds d i start (peers new) first now new connections view lifted before ∥₁
+looked-promise {F = F} d i start first now ends new peer connections view lifted before looked promise =
+    ∥∥₁_map promise (λ (h : Holds d i start (peers ends) first now ends connections view lifted before).
+    subst (λ n. Holds d i start n first now new connections view lifted before) (sym looked.rings.peers)
     (record {
+      gaps = h.gaps;
+      gaps_are = h.gaps_are;
       promise = record {
         taken = h.promise.taken;
         part = λ s lt. subst (λ ms. IsPartOf (h.promise.taken s) (all_asking ms))
@@ -530,15 +559,15 @@ looked-promise {F = F} d i start first now ends new peer connections view before
         };
         batches = h.promise.batches;
         same = h.promise.same;
+        stamps = h.promise.stamps;
         causes = h.promise.causes;
+        map = h.promise.map;
         leaves = h.promise.leaves;
       };
       paired = λ s lt. subst (λ given. length (answered_in given)
           ≡ length (groups_in (h.promise.taken s))) (answers s) (h.paired s lt);
       low = h.low;
-      follows = h.follows;
       sure = h.sure;
-      closed = h.closed;
       leaves = h.leaves;
       same = h.same;
     }))
@@ -552,14 +581,16 @@ pub first-promise : {D I F : Type 0} (d : disks.Ghosts D) (i : indexes.Ghosts I)
     (worker : WorkerView D I) (ends : Ends (Answer F) (Ask F) 8) (connections : List (Connection F))
     (view : View) (before : List Write) → BeginsWith d i worker before (view.start - 1)
     → IsFresh ends → ((s : ℕ) → connection_of connections s ≡ new_connection)
-    → view.drawn ≡ [] → (1 ≤ view.start) × (view.start ≤ view.seen)
-    → Holds d i view.start (peers ends) worker worker ends connections view before
+    → IsUnused view → (1 ≤ view.start) × (view.start ≤ view.seen)
+    → Holds d i view.start (peers ends) worker worker ends connections view false before
 first-promise {D = D} {I = I} {F = F} d i worker ends connections view before begins fresh idle none
     started =
     let none_sent : (s : ℕ) → [] ≡ answers_to ends connections s = λ s.
     sym (ap (λ given. given ++ option_to_list (connection_of connections s).waiting) (fresh.sent s)
     ∙ ap (λ (c : Connection F). option_to_list c.waiting) (idle s)) in
     record {
+      gaps = [];
+      gaps_are = λ is. sym none.gaps;
       promise = record {
         taken = λ s. [];
         part = λ s lt. tt;
@@ -577,18 +608,33 @@ first-promise {D = D} {I = I} {F = F} d i worker ends connections view before be
         };
         batches = [];
         same = refl;
-        causes = record { few = tt; closes = tt; counted = refl; spent = tt; full = λ told. tt };
+        stamps = record {
+          low = tt;
+          few =
+              let a = ap size_of none.drawn in
+              let b = ap size_of none.spent in
+              omega (arith, a, b);
+          limits = subst (All IsMet) (sym none.spent) (λ k e lt. absurd (omega (arith, lt)));
+          gaps = λ k e lt. absurd (omega (arith, lt));
+        };
+        causes = record {
+          few = tt;
+          closes = tt;
+          closed_is = begins.open_;
+          counted = refl;
+          spent = tt;
+          full = λ told. tt;
+        };
+        map = λ open_ stamp le. subst (λ w. FollowsHistory d.tells w stamp
+            (start_of d i worker.store)) (sym (append-nil before))
+            (follows-later stamp (omega (arith, le, started.0, started.1)));
         leaves = leaves-prefixes d (setting_of d.tells view.start (peers ends) worker.store.workers
             worker.store.limits.slots) worker.store.worker worker.store.disk.disk
             worker.store.disk.disk before [] refl begun_leaves;
       };
       paired = λ s lt. subst (λ given. length (answered_in given) ≡ 0) (none_sent s) refl;
       low = tt;
-      follows = λ open_ stamp le. subst (λ w. FollowsHistory d.tells w stamp
-          (start_of d i worker.store)) (sym (append-nil before))
-          (follows-later stamp (omega (arith, le, started.0, started.1)));
       sure = λ open_. refl;
-      closed = sym begins.open_;
       leaves = begun_leaves;
       same = (refl, refl, refl);
     }
@@ -635,10 +681,10 @@ pub first-holds : {D I F : Type 0} (d : disks.Ghosts D) (i : indexes.Ghosts I)
     (connections : List (Connection F)) (view : View) (before : List Write) → first ≡ worker
     → BeginsWith d i first before (view.start - 1)
     → IsFresh ends → ((s : ℕ) → connection_of connections s ≡ new_connection)
-    → view.drawn ≡ [] → (1 ≤ view.start) × (view.start ≤ view.seen)
-    → Holds d i view.start (peers ends) first worker ends connections view before
+    → IsUnused view → (1 ≤ view.start) × (view.start ≤ view.seen)
+    → Holds d i view.start (peers ends) first worker ends connections view false before
 first-holds d i first worker ends connections view before same begins fresh idle none started =
-    subst (λ w. Holds d i view.start (peers ends) w worker ends connections view before) (sym same)
+    subst (λ w. Holds d i view.start (peers ends) w worker ends connections view false before) (sym same)
     (first-promise d i worker ends connections view before
     (subst (λ w. BeginsWith d i w before (view.start - 1)) same begins) fresh idle none started)
 

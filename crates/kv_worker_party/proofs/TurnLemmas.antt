@@ -2,12 +2,14 @@
 use Rattle.std.proofs.Common.{◌≡◌, ◌≢◌, ◌⊎◌, inl, inr, ⊎_elim, ℕ, zero, suc, ◌+◌, ◌-◌, ◌^◌, ◌<◌, ◌≤◌}
 use Rattle.std.proofs.Common.{List, [], ◌∷◌, ◌++◌, map, length, Option, None, Some, Bool, true, false}
 use Rattle.std.proofs.Common.{refl, sym, ap, subst, subst₂, ◌∙◌, arith, append-nil, append_assoc}
-use Rattle.std.proofs.Common.{length-append, IfSome, MatchOption}
+use Rattle.std.proofs.Common.{length-append, IfSome, MatchOption, All, Contains}
 use Rattle.std.specs.Prelude.{option_to_list, if◌then◌else◌}
 use Rattle.std.specs.List.{AllByRecursion, flat_map}
 use Rattle.std.proofs.lemmas.Grind.{merely}
 use Rattle.std.proofs.lemmas.List.{length-map}
 use Rattle.std.proofs.lemmas.List.Concat.{flat_map-append}
+use Rattle.std.proofs.lemmas.List.Elements.{All-append as All-append_at, Contains-append_left}
+use Rattle.std.proofs.lemmas.List.Elements.{Contains-append_right}
 use Rattle.kv_base.specs.Crash.{LeavesOnly}
 use Rattle.kv_base.specs.Image.{Image}
 use Rattle.kv_base.specs.Partition.{owner_of}
@@ -18,6 +20,7 @@ use Rattle.kv_base.specs.declared.request.Request.{Request}
 use Rattle.kv_disk.specs.declared.disk.Disk as disks
 use Rattle.kv_index.specs.declared.index.Index as indexes
 use Rattle.kv_model.proofs.PairwiseLemmas.{All-append, All-map, All-rest, Pairwise-append}
+use Rattle.kv_model.proofs.ContainsLemmas.{Contains-first}
 use Rattle.kv_model.specs.Agreement.{AgreesWithMap}
 use Rattle.kv_model.specs.Batch.{IsTask}
 use Rattle.kv_model.specs.BatchLaws.{pairs_of}
@@ -34,6 +37,7 @@ use Rattle.kv_parties.specs.Messages.{answered_of, task_pairs, IsPartOf, IsRepli
 use Rattle.kv_parties.specs.Promises.{WorkerPromise}
 use Rattle.kv_parties.specs.Recovered.{LeavesPrefixes, Recovers}
 use Rattle.kv_parties.specs.Setting.{Setting, IsOwned}
+use Rattle.kv_parties.specs.Stamps.{IsForGroup}
 use Rattle.kv_parties.specs.Workers.{AnswersGroups, Done, done_pairs, done_for}
 use Rattle.kv_ring.specs.Ends.{peers, received_from}
 use Rattle.kv_ring.specs.Tasks.{requests_of}
@@ -44,6 +48,7 @@ use Rattle.kv_ring.specs.declared.message.Ask.{Ask}
 use Rattle.kv_ring.specs.declared.message.Ask.TheVariants as ask
 use Rattle.kv_ring.specs.declared.task.Task.{Task}
 use Rattle.kv_stamps.specs.Ranges.{among}
+use Rattle.kv_stamps.specs.declared.view.Range.{Range}
 use Rattle.kv_stamps.specs.declared.view.View.{View}
 use Rattle.kv_groups.specs.declared.connection.Connection.{Connection}
 use Rattle.kv_ring.specs.declared.turn.Turn.{Turn}
@@ -52,7 +57,7 @@ use Rattle.kv_worker.specs.Batches.{AreAnswered, IsOpenTask, requests_in}
 use Rattle.kv_groups.specs.Delivering.{tasks_of}
 use Rattle.kv_groups.specs.Gathering.{Intake, intake_of, taken_by, nothing, greatest}
 use Rattle.kv_worker_party.specs.Laws.{PartyLaws}
-use Rattle.kv_worker_party.specs.Party.{GoesOn, Holds, LeavesEach, answers_to, setting_of}
+use Rattle.kv_worker_party.specs.Party.{GoesOn, Holds, LeavesEach, answers_to, data_of, setting_of}
 use Rattle.kv_groups.specs.Taking.{connection_of, group_taken, takes_group}
 use Rattle.kv_groups.specs.Traffic.{traffic_with}
 use Rattle.kv_worker_party.specs.Turns.{Exchanges, Turns, answer_to, asked_seen, asked_seens, asked_tasks}
@@ -64,7 +69,9 @@ use Rattle.kv_worker_party.proofs.BatchedLemmas.{done_pairs-append, done_for-app
 use Rattle.kv_worker_party.proofs.BatchedLemmas.{done-below, stamps-append, stamps-at, rising-at}
 use Rattle.kv_worker_party.proofs.BatchCauseLemmas.{BatchCauses, served-batch, causes-push, pairs-push}
 use Rattle.kv_worker_party.proofs.WholeLemmas.{IsFramed, items-framed, tasks-each, tasks-replied}
-use Rattle.kv_worker_party.proofs.WholeLemmas.{answer-whole, pairs-few}
+use Rattle.kv_worker_party.proofs.WholeLemmas.{answer-whole, pairs-few, pairs-many, reply-many}
+use Rattle.kv_worker_party.proofs.CountedLemmas.{IsGapBehind, served-counted, greatest-taken}
+use Rattle.kv_worker_party.proofs.CountedLemmas.{gaps-longer, gaps-for}
 use Rattle.kv_worker_party.proofs.KeepLemmas.{Keeps, Adds, served-keeps, served-leaves}
 use Rattle.kv_worker_party.proofs.StampedLemmas.{HasStamp, stamps-all}
 use Rattle.kv_groups.proofs.TakeLemmas.{is-taken}
@@ -230,13 +237,14 @@ leaves-prefixes d setting worker first now before pairs layout leaves = record {
 pub holds-turn : {D I F : Type 0} (laws : PartyLaws) (d : disks.Ghosts D) (i : indexes.Ghosts I)
     (start sessions : ℕ) (first old now : WorkerView D I) (ends new : Ends (Answer F) (Ask F) 8)
     (connections after : List (Connection F)) (view later : View) (turn : Turn)
-    (before : List Write) → (h : Holds d i start sessions first old ends connections view before)
+    (lifted : Bool) (before : List Write)
+    → (h : Holds d i start sessions first old ends connections view lifted before)
     → (1 ≤ start) × (start ≤ view.seen)
     → AllByRecursion (λ write. write.stamp < view.seen) before → peers ends ≡ sessions
     → Turns d i old now ends new connections after view later turn
-    → GoesOn d i start sessions first old now ends new connections after view later before h
+    → GoesOn d i start sessions first old now ends new connections after view later lifted before h
 holds-turn {D = D} {I = I} {F = F} laws d i start sessions first old now ends new connections after view later
-    turn before h above earlier size t =
+    turn lifted before h above earlier size t =
     let history : List Done = h.promise.groups.history in
     let pairs : List Pair = done_pairs history in
     let worker : ℕ = old.store.worker in
@@ -257,12 +265,16 @@ holds-turn {D = D} {I = I} {F = F} laws d i start sessions first old now ends ne
     (sym (tasks-at t.intakes k ∙ e.tasks))
     (open-asked worker workers (0 + k) (intake_of t.intakes k).waits
     (intake_of t.intakes k).came)) in
+    let follows : old.store.closed ≡ false → (stamp : ℕ) → view.seen ≤ stamp + 1
+    → FollowsHistory d.tells (before ++ writes pairs) stamp (start_of d i old.store) =
+    λ is_open stamp le. subst (λ ps. FollowsHistory d.tells (before ++ writes ps) stamp
+    (start_of d i old.store)) h.promise.same (h.promise.map is_open stamp le) in
     let keeps : Keeps d i start sessions first old view before pairs = record {
       agrees = h.promise.groups.right;
       above = above;
       earlier = earlier;
       below = h.low;
-      follows = h.follows;
+      follows = follows;
       sure = h.sure;
       leaves = h.leaves;
       same = h.same;
@@ -325,6 +337,13 @@ holds-turn {D = D} {I = I} {F = F} laws d i start sessions first old now ends ne
     let setting : Setting = setting_of d.tells start sessions first.store.workers
     first.store.limits.slots in
     let batches : List (List Pair) = h.promise.batches in
+    let batched : pairs_in (batches ++ group ∷ []) ≡ pairs ++ group =
+    pairs-push batches group ∙ ap (λ ps. ps ++ group) h.promise.same in
+    let group_many : length requests ≤ length group = omega (
+      arith,
+      pairs-many requests t.replies
+          (reply-many items (in_hand 0 t.answered) t.replies t.batch),
+    ) in
     let few : length group ≤ 512 = omega (
       arith,
       pairs-few requests t.replies,
@@ -332,15 +351,41 @@ holds-turn {D = D} {I = I} {F = F} laws d i start sessions first old now ends ne
       t.few,
     ) in
     let causes = causes-push d setting old now view later before (d.faults first.store.disk.disk)
-    batches group refl refl h.promise.causes h.closed few
+    batches group refl refl h.promise.causes few
     (subst (λ ps. BatchCauses d first.store.limits.slots old now view later before ps group)
     (sym h.promise.same)
     (served-batch laws d i before pairs first.store.limits.slots old now t.seen view later requests
     t.replies (ap (λ (l : Limits). l.slots) h.same.2)
-    (λ base up is_open. h.follows is_open (base - 1) (omega (arith, above.0, above.1, up)))
+    (λ base up is_open. subst (λ ps. FollowsHistory d.tells (before ++ writes ps) (base - 1)
+    (start_of d i old.store)) refl (follows is_open (base - 1) (omega (arith, above.0, above.1, up))))
     t.served)) in
+    let counted = served-counted d i old now t.seen view later requests t.replies
+    (omega (arith, length-map items (λ (i : ℕ × Task). i.1.request), t.few)) t.served in
+    let gaps : List Range = h.gaps ++ counted.more in
+    let new-gaps : (counted.more ≡ []) ⊎ (1 ≤ length requests)
+    → All (IsForGroup setting (λ s. groups_in (taken s))) counted.more = ⊎_elim
+    (λ (none : counted.more ≡ []).
+    subst (All (IsForGroup setting (λ s. groups_in (taken s)))) (sym none)
+    (λ k e lt. absurd (omega (arith, lt))))
+    (λ (some : 1 ≤ length requests).
+    let found = greatest-taken worker workers t.intakes
+    (λ s lt. (t.each s (omega (arith, lt, t.many.0))).tasks)
+    (λ s lt. seen-at worker workers t.intakes s lt)
+    (omega (arith, some, length-map items (λ (i : ℕ × Task). i.1.request))) in
+    let asked : Asked = record {
+      seen = found.2.0.0;
+      requests = requests_of found.2.0.1.items;
+    } in
+    gaps-for setting (λ s. groups_in (taken s)) counted.more found.0 asked
+    (omega (arith, found.1, t.many.0, size))
+    (subst (λ gs. Contains gs asked) (sym (taken_more found.0))
+    (Contains-append_right (groups_in (h.promise.taken found.0)) (groups_in (message found.0))
+    asked (subst (λ o. Contains (groups_in (message_of {F = F} o)) asked) (sym found.2.1.0)
+    (Contains-first [] asked))))
+    (subst (λ n. All (IsGapBehind n) counted.more) (t.seen_is ∙ sym found.2.1.1)
+    counted.each)) in
     let promise : WorkerPromise d setting first.store.worker before (received_from new)
-    (answers_to new after) later first.store.disk.disk now.store.disk.disk = record {
+    (answers_to new after) (data_of d i first now later gaps) = record {
       taken = taken;
       part = λ s lt. subst (IsPartOf (taken s))
           (sym (ap all_asking (came s lt)
@@ -406,15 +451,37 @@ holds-turn {D = D} {I = I} {F = F} laws d i start sessions first old now ends ne
             (rising-at t.answered s all_rising)));
       };
       batches = batches ++ group ∷ [];
-      same = pairs-push batches group ∙ ap (λ ps. ps ++ group) h.promise.same ∙ all_is;
-      causes = causes.0;
+      same = batched ∙ all_is;
+      stamps = record {
+        low = subst (AllByRecursion (λ stamp. stamp < later.seen)) (ap stamps (sym batched))
+            (stamps-all (λ stamp. stamp < later.seen) (pairs ++ group) r.0.below);
+        few =
+            let a = h.promise.stamps.few in
+            let b = counted.sizes in
+            let c = ap length batched in
+            let e = length-append pairs group in
+            let f = ap length h.promise.same in
+            omega (arith, a, b, c, e, f, group_many);
+        limits = counted.limits h.promise.stamps.limits;
+        gaps = All-append_at (IsForGroup setting (λ s. groups_in (taken s))) h.gaps counted.more
+            (gaps-longer setting (λ s. groups_in (h.promise.taken s)) (λ s. groups_in (taken s))
+            h.gaps (λ s asked there. subst (λ gs. Contains gs asked) (sym (taken_more s))
+            (Contains-append_left (groups_in (h.promise.taken s)) (groups_in (message s)) asked
+            there)) h.promise.stamps.gaps)
+            (new-gaps counted.some);
+      };
+      causes = causes;
+      map = λ is_open stamp le. subst (λ ps. FollowsHistory d.tells (before ++ writes ps) stamp
+          (start_of d i now.store)) (sym batched) (r.0.follows is_open stamp le);
       leaves = subst (LeavesPrefixes d setting first.store.worker first.store.disk.disk
           now.store.disk.disk before)
-          (sym (pairs-push batches group ∙ ap (λ ps. ps ++ group) h.promise.same))
+          (sym batched)
           (leaves-prefixes d setting first.store.worker first.store.disk.disk now.store.disk.disk
           before (pairs ++ group) refl r.0.leaves);
     } in
-    let holds : Holds d i start sessions first now new after later before = record {
+    let holds : Holds d i start sessions first now new after later lifted before = record {
+      gaps = gaps;
+      gaps_are = λ is. ap (λ gs. gs ++ counted.more) (h.gaps_are is) ∙ sym counted.gaps;
       promise = promise;
       paired = λ s lt.
           let a = ap length (answered_more s lt)
@@ -426,10 +493,7 @@ holds-turn {D = D} {I = I} {F = F} laws d i start sessions first old now ends ne
           let e = h.paired s lt in
           omega (arith, a, b, c, e);
       low = subst (AllByRecursion (HasStamp (λ stamp. stamp < later.seen))) all_is r.0.below;
-      follows = λ is_open stamp le. subst (λ ps. FollowsHistory d.tells (before ++ writes ps) stamp
-          (start_of d i now.store)) all_is (r.0.follows is_open stamp le);
       sure = λ is_open. ap unsure_writes (sym all_is) ∙ r.0.sure is_open;
-      closed = causes.1;
       leaves = subst (LeavesEach d first.store.worker first.store.workers first.store.disk.disk
           now.store.disk.disk before) all_is r.0.leaves;
       same = r.0.same;

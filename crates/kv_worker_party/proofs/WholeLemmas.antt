@@ -3,6 +3,7 @@ use Rattle.std.proofs.Common.{◌≡◌, ℕ, zero, suc, ◌+◌, ◌^◌, ◌<�
 use Rattle.std.proofs.Common.{Some, None, IfSome, refl, sym, ap, subst, ◌∙◌, arith}
 use Rattle.std.specs.List.{AllByRecursion, cons_option}
 use Rattle.std.specs.Option.{option_map}
+use Rattle.std.proofs.lemmas.List.{length-map}
 use Rattle.kv_base.specs.Reserved.{Reserved}
 use Rattle.kv_base.specs.declared.reply.Reply.{Reply}
 use Rattle.kv_base.specs.declared.request.Request.{Request}
@@ -16,6 +17,7 @@ use Rattle.kv_ring.specs.declared.message.Answer.{Answer}
 use Rattle.kv_ring.specs.declared.task.Task.{Task}
 use Rattle.kv_groups.specs.Batched.{of_session, in_hand}
 use Rattle.kv_groups.specs.Delivering.{tasks_of}
+use Rattle.kv_worker.specs.Batches.{AreAnswered, requests_in}
 use Rattle.kv_worker_party.specs.Turns.{answer_to}
 use Rattle.kv_worker_party.proofs.BatchedLemmas.{heads, tails}
 
@@ -109,3 +111,23 @@ pub pairs-few : (requests : List Request) (replies : List Reply)
 pairs-few [] replies = omega arith
 pairs-few (request ∷ requests) [] = omega arith
 pairs-few (request ∷ requests) (reply ∷ replies) = omega (arith, pairs-few requests replies)
+
+-- and as many where there is a reply for each
+pub pairs-many : (requests : List Request) (replies : List Reply)
+    → length requests ≤ length replies → length requests ≤ length (pairs_of requests replies)
+pairs-many [] replies many = omega arith
+pairs-many (request ∷ requests) [] many = absurd (omega (arith, many))
+pairs-many (request ∷ requests) (reply ∷ replies) many =
+    omega (arith, pairs-many requests replies (omega (arith, many)))
+
+-- there is a reply for each request of an answered batch
+pub reply-many : (items now : List (ℕ × Task)) (replies : List Reply)
+    → AreAnswered items now replies → length (requests_in items) ≤ length replies
+reply-many items now replies are = omega (
+  arith,
+  ap length are.requests,
+  ap length are.replies_are,
+  length-map now (λ (i : ℕ × Task). i.1.request),
+  length-map now (λ (i : ℕ × Task). i.1.reply),
+  length-map replies (λ (r : Reply). Some r),
+)

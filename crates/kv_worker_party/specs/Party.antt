@@ -9,17 +9,18 @@ use Rattle.kv_index.specs.declared.index.Index as indexes
 use Rattle.kv_model.specs.History.{Write}
 use Rattle.kv_model.specs.Items.{FollowsHistory}
 use Rattle.kv_model.specs.Layout.{all_classes}
-use Rattle.kv_model.specs.Pairs.{Pair, pairs_in, stamp_of, writes, unsure_writes}
+use Rattle.kv_model.specs.Pairs.{Pair, stamp_of, writes, unsure_writes}
 use Rattle.kv_model.specs.Recovery.{RecoversPrefix}
 use Rattle.kv_parties.specs.Messages.{groups_in, answered_in}
-use Rattle.kv_parties.specs.Promises.{WorkerPromise}
-use Rattle.kv_parties.specs.Causes.{all_writes, any_unsure}
+use Rattle.kv_parties.specs.Promises.{WorkerData, WorkerPromise}
+use Rattle.kv_parties.specs.Causes.{all_writes}
 use Rattle.kv_parties.specs.Setting.{Setting}
 use Rattle.kv_parties.specs.Workers.{Done, done_pairs}
 use Rattle.kv_ring.specs.Ends.{sent_to, received_from, peers}
 use Rattle.kv_ring.specs.declared.ends.Ends.{Ends}
 use Rattle.kv_ring.specs.declared.message.Answer.{Answer}
 use Rattle.kv_ring.specs.declared.message.Ask.{Ask}
+use Rattle.kv_stamps.specs.declared.view.Range.{Range}
 use Rattle.kv_stamps.specs.declared.view.View.{View}
 use Rattle.kv_groups.specs.declared.connection.Connection.{Connection}
 use Rattle.kv_groups.specs.Taking.{connection_of}
@@ -66,26 +67,42 @@ pub record BeginsWith {D I : Type 0} (d : disks.Ghosts D) (i : indexes.Ghosts I)
       → MayLeave (d.leaves worker.store.disk.disk (d.calls worker.store.disk.disk)) image
       → RecoversPrefix all_classes before before image worker.store.worker worker.store.workers
 
--- the party keeps its promise of what it received and sent, from these writes on; and each group that
--- it took is answered, all stamps are below what its seat has seen, an open worker's map is what its
--- history gives, and a worker is closed exactly where a write was unsure
+-- what the worker has beside its ring ends, with these of the gaps that its seat left
+abbrev pub data_of : {D I : Type 0} → disks.Ghosts D → indexes.Ghosts I → WorkerView D I
+    → WorkerView D I → View → List Range → WorkerData D
+data_of d i first now view gaps = record {
+  view = record view { gaps = gaps };
+  first = first.store.disk.disk;
+  now = now.store.disk.disk;
+  closed = now.store.closed;
+  store = start_of d i now.store;
+}
+
+-- the seat drew nothing, passed nothing over, and met no stamps left
+pub record IsUnused (view : View) : Type 0 where
+  pub drawn : view.drawn ≡ []
+  pub gaps : view.gaps ≡ []
+  pub spent : view.spent ≡ []
+
+-- the party keeps its promise of what it received and sent, from these writes on, with all gaps of its
+-- seat unless the counter was lifted through it from outside; and each group that it took is answered,
+-- and all stamps are below what its seat has seen
 pub record Holds {D I F : Type 0} (d : disks.Ghosts D) (i : indexes.Ghosts I)
     (start sessions : ℕ) (first now : WorkerView D I) (ends : Ends (Answer F) (Ask F) 8)
-    (connections : List (Connection F)) (view : View) (before : List Write) : Type 0 where
+    (connections : List (Connection F)) (view : View) (lifted : Bool) (before : List Write) :
+    Type 0 where
+  pub gaps : List Range
+  pub gaps_are : lifted ≡ false → gaps ≡ view.gaps
   pub promise : WorkerPromise d (setting_of d.tells start sessions first.store.workers
       first.store.limits.slots) first.store.worker before (received_from ends)
-      (answers_to ends connections) view first.store.disk.disk now.store.disk.disk
+      (answers_to ends connections) (data_of d i first now view gaps)
   pub paired : (session : ℕ) → session < sessions
       → length (answered_in (answers_to ends connections session))
       ≡ length (groups_in (promise.taken session))
   pub low : AllByRecursion (λ pair. MatchOption (stamp_of pair.reply) ⊤ (λ stamp. stamp < view.seen))
       (done_pairs promise.groups.history)
-  pub follows : now.store.closed ≡ false → (stamp : ℕ) → view.seen ≤ stamp + 1
-      → FollowsHistory d.tells (before ++ writes (done_pairs promise.groups.history)) stamp
-      (start_of d i now.store)
   pub sure : now.store.closed ≡ false
       → unsure_writes (done_pairs promise.groups.history) ≡ []
-  pub closed : any_unsure (pairs_in promise.batches) ≡ now.store.closed
   pub leaves : LeavesEach d first.store.worker first.store.workers first.store.disk.disk
       now.store.disk.disk before (done_pairs promise.groups.history)
   pub same : (now.store.worker ≡ first.store.worker)
@@ -95,9 +112,11 @@ pub record Holds {D I F : Type 0} (d : disks.Ghosts D) (i : indexes.Ghosts I)
 -- of each key the value after a prefix of its writes, which holds all that was answered before
 pub record GoesOn {D I F : Type 0} (d : disks.Ghosts D) (i : indexes.Ghosts I)
     (start sessions : ℕ) (first old now : WorkerView D I) (ends new : Ends (Answer F) (Ask F) 8)
-    (connections after : List (Connection F)) (view later : View) (before : List Write)
-    (h : Holds d i start sessions first old ends connections view before) : Type 0 where
-  pub holds : Holds d i start sessions first now new after later before
+    (connections after : List (Connection F)) (view later : View) (lifted : Bool)
+    (before : List Write)
+    (h : Holds d i start sessions first old ends connections view lifted before) :
+    Type 0 where
+  pub holds : Holds d i start sessions first now new after later lifted before
   pub more : List Done
   pub longer : holds.promise.groups.history ≡ h.promise.groups.history ++ more
   pub moments : LeavesOnly (d.calls old.store.disk.disk) (d.calls now.store.disk.disk)
@@ -110,8 +129,8 @@ pub record GoesOn {D I F : Type 0} (d : disks.Ghosts D) (i : indexes.Ghosts I)
 -- the promise stood, and goes on so
 abbrev pub StoodAndGoesOn : {D I F : Type 0} → disks.Ghosts D → indexes.Ghosts I → ℕ → ℕ
     → WorkerView D I → WorkerView D I → WorkerView D I → Ends (Answer F) (Ask F) 8
-    → Ends (Answer F) (Ask F) 8 → List (Connection F) → List (Connection F) → View → View
+    → Ends (Answer F) (Ask F) 8 → List (Connection F) → List (Connection F) → View → View → Bool
     → List Write → Type 0
-StoodAndGoesOn d i start sessions first old now ends new connections after view later before =
-    (h : Holds d i start sessions first old ends connections view before)
-    × GoesOn d i start sessions first old now ends new connections after view later before h
+StoodAndGoesOn d i start sessions first old now ends new connections after view later lifted before =
+    (h : Holds d i start sessions first old ends connections view lifted before)
+    × GoesOn d i start sessions first old now ends new connections after view later lifted before h

@@ -46,6 +46,7 @@ pub struct WorkerParty<D: Disk, I: Index, F> {
     batch: Batch,
     seat: StampSeat,
     first: Snapshot<Worker<D, I>>,
+    lifted: bool,
     alloc: Global,
     ghost number_is: { number ≡ worker.store.worker },
     ghost workers_is: { workers ≡ worker.store.workers },
@@ -62,7 +63,7 @@ pub struct WorkerParty<D: Disk, I: Index, F> {
     pub ghost promise: { (before : List Write)
         → BeginsWith D.Disk I.Index first.value before (seat.view.start - 1)
         → ∥ Holds D.Disk I.Index seat.view.start (peers ends) first.value worker ends
-        connections.items seat.view before ∥₁ },
+        connections.items seat.view lifted before ∥₁ },
 }
 
 // As many connections, with nothing in hand.
@@ -85,7 +86,7 @@ impl<D: Disk + Drop, I: Index + Drop, F: Drop> WorkerParty<D, I, F> {
     ghost use Rattle.kv_model.specs.History.{Write};
     ghost use Rattle.kv_ring.specs.Ends.{peers, IsFresh};
     ghost use Rattle.kv_stamps.specs.Steps.{Raises, Looks};
-    ghost use Rattle.kv_worker_party.specs.Party.{BeginsWith, StoodAndGoesOn};
+    ghost use Rattle.kv_worker_party.specs.Party.{BeginsWith, IsUnused, StoodAndGoesOn};
     ghost use Rattle.kv_groups.specs.Taking.{new_connection};
     ghost use Rattle.kv_worker_party.specs.Turns.{Turns};
 
@@ -103,13 +104,13 @@ impl<D: Disk + Drop, I: Index + Drop, F: Drop> WorkerParty<D, I, F> {
         requires workers { workers ≡ parts.worker.store.workers }
         requires one_of { IsWorker number workers }
         requires ends { IsFresh parts.ends }
-        requires drawn { parts.seat.view.drawn ≡ [] }
+        requires unused { IsUnused parts.seat.view }
         requires started { (1 ≤ parts.seat.view.start)
             × (parts.seat.view.start ≤ parts.seat.view.seen) }
         requires ahead { parts.worker.highest < parts.seat.view.seen }
         ensures ok { IfOk result (λ party. (party.worker ≡ parts.worker)
             × (party.ends ≡ parts.ends) × (party.seat ≡ parts.seat)
-            × (party.first.value ≡ parts.worker)) }
+            × (party.first.value ≡ parts.worker) × (party.lifted ≡ false)) }
         ensures err { IfErr result (λ refused. refused.0 ≡ parts) }
     {
         let batch = match Batch::with_room(alloc, MOST_TASKS) {
@@ -131,6 +132,7 @@ impl<D: Disk + Drop, I: Index + Drop, F: Drop> WorkerParty<D, I, F> {
             batch,
             seat,
             first,
+            lifted: false,
             alloc,
         })
     }
@@ -149,9 +151,10 @@ impl<D: Disk + Drop, I: Index + Drop, F: Drop> WorkerParty<D, I, F> {
             → ∥ StoodAndGoesOn ⟦<D as Disk>⟧ ⟦<I as Index>⟧ self.old.seat.view.start
             (peers self.old.ends) self.old.first.value self.old.worker self.new.worker
             self.old.ends self.new.ends self.old.connections.items self.new.connections.items
-            self.old.seat.view self.new.seat.view before ∥₁ }
+            self.old.seat.view self.new.seat.view self.old.lifted before ∥₁ }
         ensures counter { self.new.seat.counter ≡ self.old.seat.counter }
-        ensures first { self.new.first.value ≡ self.old.first.value }
+        ensures first { (self.new.first.value ≡ self.old.first.value)
+            × (self.new.lifted ≡ self.old.lifted) }
     {
         // By these laws the promise goes on.
         party_laws();
@@ -167,7 +170,8 @@ impl<D: Disk + Drop, I: Index + Drop, F: Drop> WorkerParty<D, I, F> {
         )
     }
 
-    /// Raises the counter to `to`, at most 2^62, with this party's seat. Takes no memory.
+    /// Raises the counter to `to`, at most 2^62, with this party's seat; from then on the promise
+    /// doesn't tell of each gap of the seat for which group it was left. Takes no memory.
     pub fn raise(&mut self, stamps: &Stamps, to: u64)
         requires counter { self.old.seat.counter ≡ stamps.now }
         requires to { to ≤ 2 ^ 62 }
@@ -177,6 +181,7 @@ impl<D: Disk + Drop, I: Index + Drop, F: Drop> WorkerParty<D, I, F> {
             × (self.new.connections ≡ self.old.connections)
             × (self.new.first.value ≡ self.old.first.value) }
     {
+        self.lifted = true;
         stamps.raise(&mut self.seat, to);
     }
 
@@ -189,7 +194,8 @@ impl<D: Disk + Drop, I: Index + Drop, F: Drop> WorkerParty<D, I, F> {
             × Looks self.old.seat.view next self.new.seat.view }
         ensures kept { (self.new.worker ≡ self.old.worker) × (self.new.ends ≡ self.old.ends)
             × (self.new.connections ≡ self.old.connections)
-            × (self.new.first.value ≡ self.old.first.value) }
+            × (self.new.first.value ≡ self.old.first.value)
+            × (self.new.lifted ≡ self.old.lifted) }
     {
         stamps.look(&mut self.seat)
     }
@@ -208,6 +214,7 @@ impl<D: Disk + Drop, I: Index + Drop, F: Drop> WorkerParty<D, I, F> {
             batch: _,
             seat,
             first: _,
+            lifted: _,
             alloc: _,
         } = self;
         WorkerParts { worker, ends, seat }
@@ -221,7 +228,8 @@ impl<D: Disk + Drop, I: Index + Drop, F: Drop> WorkerSide<F> for WorkerParty<D, 
     ghost ends = { λ party. party.ends };
 
     ghost Stays = { λ old new. (new.worker ≡ old.worker) × (new.seat ≡ old.seat)
-        × (new.connections ≡ old.connections) × (new.first.value ≡ old.first.value) };
+        × (new.connections ≡ old.connections) × (new.first.value ≡ old.first.value)
+        × (new.lifted ≡ old.lifted) };
 
     fn left_beside(&mut self, session_ends: &mut SessionEnds<F>, session: u32, worker: u32) -> u32 {
         left_between(session_ends, session, &mut self.ends, worker)

@@ -23,6 +23,6 @@ invariant_of-result g c =
           s;
       promise = λ before begins. merely (first-holds g.D.Disk g.I.Index c.of-first.result.value
           parts.worker parts.ends connections.items parts.seat.view before
-          c.of-first.ensures begins c.requires.ends c.in-Ok-new_connections.ensures.new c.requires.drawn
+          c.of-first.ensures begins c.requires.ends c.in-Ok-new_connections.ensures.new c.requires.unused
           c.requires.started);
     }

@@ -1,5 +1,5 @@
 -- a raise draws nothing
-use Rattle.std.proofs.Common.{arith, ap}
+use Rattle.std.proofs.Common.{arith, ap, true, true≢false}
 use Rattle.kv_worker_party.proofs.SeatLemmas.{raised-stayed}
 use Rattle.kv_worker_party.proofs.PartyLemmas.{later-promise}
 use Rattle.kv_worker_party.proofs.party.WorkerParty.raise.Goals as goal
@@ -24,6 +24,9 @@ invariant_of-self g c =
       ahead = λ open_. let a = old.ahead open_ in omega (arith, a, stays.up);
       gone = old.gone;
       promise = later-promise g.D.Disk g.I.Index old.first.value old.worker old.ends
-          old.connections.items old.seat.view c.raise.new.seat.view stays
-          (ap (λ x. x.spent) v.1.view) old.promise;
+          old.connections.items old.seat.view c.raise.new.seat.view old.lifted true (record {
+            stays = stays;
+            spent = ap (λ x. x.spent) v.1.view;
+            gaps = λ is. absurd (true≢false is);
+          }) old.promise;
     }

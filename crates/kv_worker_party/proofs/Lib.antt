@@ -14,3 +14,4 @@ pub mod SeatLemmas
 pub mod KeepLemmas
 pub mod TurnLemmas
 pub mod PartyLemmas
+pub mod DueLemmas

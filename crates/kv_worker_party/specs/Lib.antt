@@ -2,3 +2,4 @@ pub mod Serving
 pub mod Turns
 pub mod Laws
 pub mod Party
+pub mod Due

@@ -1,3 +1,4 @@
+ghost use Rattle.kv_worker_party.specs.Due.{DueAreTaken};
 ghost use Rattle.kv_worker_party.specs.Laws.{PartyLaws};
 
 use kv_model::{
@@ -19,3 +20,9 @@ pub fn party_laws()
     refusals_are_silent();
     prefixes_stay();
 }
+
+/// A message that a session sends by its promise is one that its worker's turn takes, where no
+/// answer to the session waits.
+pub fn due_messages_are_taken<F>()
+    ensures { DueAreTaken F }
+{}

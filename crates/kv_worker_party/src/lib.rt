@@ -8,4 +8,5 @@ mod serve;
 #[cfg(test)]
 mod tests;
 
+pub use laws::due_messages_are_taken;
 pub use party::{WorkerParts, WorkerParty};

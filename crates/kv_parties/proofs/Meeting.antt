@@ -1,6 +1,6 @@
 -- The promises of all parties on rings, as those on groups and their answers.
-use Rattle.std.proofs.Common.{◌≡◌, ◌⊎◌, inl, inr, ℕ, suc, ◌+◌, ◌<◌, ◌≤◌, List, [], ◌∷◌, ◌++◌, length}
-use Rattle.std.proofs.Common.{Option, Some, Bool, true, false, refl, sym, ap, ap₂, ◌∙◌, subst, arith}
+use Rattle.std.proofs.Common.{◌≡◌, inl, inr, ℕ, suc, ◌<◌, ◌≤◌, List, [], ◌∷◌, ◌++◌, length}
+use Rattle.std.proofs.Common.{true, false, refl, sym, ap, ap₂, ◌∙◌, subst, arith}
 use Rattle.std.proofs.Common.{append-nil, append_assoc}
 use Rattle.std.proofs.lemmas.List.{length-append, length-map}
 use Rattle.std.specs.List.{AllByRecursion, cons_option}
@@ -8,8 +8,6 @@ use Rattle.std.specs.Option.{option_map}
 use mathlib.Core.List.{IsPrefix}
 use Rattle.kv_disk.specs.declared.disk.Disk as disks
 use Rattle.kv_model.specs.Layout.{Layout}
-use Rattle.kv_model.specs.Pairs.{Pair}
-use Rattle.kv_ring.specs.Tasks.{requests_of}
 use Rattle.kv_ring.specs.declared.task.Task.{Task}
 use Rattle.kv_ring.specs.declared.message.Ask.{Ask}
 use Rattle.kv_ring.specs.declared.message.Ask.TheVariants as ask
@@ -17,10 +15,10 @@ use Rattle.kv_ring.specs.declared.message.Answer.{Answer}
 use Rattle.kv_ring.specs.declared.message.Answer.TheVariants as answer
 use Rattle.kv_stamps.specs.declared.view.Range.{Range}
 use Rattle.kv_parties.specs.Setting.{Setting}
-use Rattle.kv_parties.specs.Groups.{Asked, Answers, replies_of}
+use Rattle.kv_parties.specs.Groups.{Answers, replies_of}
 use Rattle.kv_parties.specs.Messages.{group_of, groups_in, asking, all_asking, answered_of}
 use Rattle.kv_parties.specs.Messages.{answered_in, IsPartOf, takes_message, IsWhole, IsAnswerTo, Hears}
-use Rattle.kv_parties.specs.Messages.{IsReplied, pair_of, task_pairs}
+use Rattle.kv_parties.specs.Messages.{IsReplied, task_pairs}
 use Rattle.kv_parties.specs.Joined.{Parties, AllKeep, NonePassed, NoneWaits}
 use Rattle.kv_parties.specs.Workers.{done_pairs}
 use Rattle.kv_parties.proofs.Lists.{flat_map-append}
@@ -68,8 +66,10 @@ replied_length : (tasks : List Task) → AllByRecursion IsReplied tasks
     → length (task_pairs tasks) ≡ length tasks
 replied_length [] all = refl
 replied_length (task ∷ tasks) all =
-    subst (λ o. length (cons_option (option_map (λ reply. record { request = task.request;
-    reply = reply }) o) (task_pairs tasks)) ≡ suc (length tasks)) (sym all.0.is)
+    subst (λ o. length (cons_option (option_map (λ reply. record {
+      request = task.request;
+      reply = reply;
+    }) o) (task_pairs tasks)) ≡ suc (length tasks)) (sym all.0.is)
     (ap suc (replied_length tasks all.1))
 
 module _ {F : Type 0} where

@@ -1,6 +1,6 @@
 -- Pairs that a session answers itself.
-use Rattle.std.proofs.Common.{◌≡◌, ◌∷◌, List, Option, None, Some, Bool, true, false, refl, sym, ap}
-use Rattle.std.proofs.Common.{◌∙◌, subst, length, cond}
+use Rattle.std.proofs.Common.{◌≡◌, List, Option, None, Some, Bool, true, false, refl, sym}
+use Rattle.std.proofs.Common.{subst, length, cond}
 use Rattle.std.specs.Prelude.{IsSome, MatchOption, is_some}
 use Rattle.kv_base.specs.declared.request.Request.{Request}
 use Rattle.kv_base.specs.declared.request.Request.TheVariants.{Put, Get, Delete, Flush}

@@ -1,10 +1,9 @@
 -- Recovery of a worker's disk, by the writes of all parties.
-use Rattle.std.proofs.Common.{◌≡◌, ◌⊎◌, inl, inr, ⊎_elim, ℕ, ◌<◌, ◌≤◌, List, [], ◌∷◌, ◌++◌, Option}
-use Rattle.std.proofs.Common.{None, Some, Bool, true, false, refl, sym, ap, ◌∙◌, subst, arith}
+use Rattle.std.proofs.Common.{◌≡◌, ◌⊎◌, inl, inr, ⊎_elim, ℕ, ◌<◌, ◌≤◌, List, ◌++◌}
+use Rattle.std.proofs.Common.{Some, refl, sym, ap, ◌∙◌, subst, arith}
 use Rattle.std.proofs.Common.{append_assoc}
 use Rattle.std.proofs.Math.Logic.{∥∥₁_map}
 use Rattle.std.specs.Prelude.{option_and_then}
-use Rattle.std.specs.List.{AllByRecursion}
 use Rattle.kv_base.specs.Image.{Image}
 use Rattle.kv_base.specs.Partition.{owner_of}
 use Rattle.kv_base.specs.declared.request.Request.{Request}
@@ -16,7 +15,6 @@ use Rattle.kv_model.specs.Pairs.{Pair, writes, unsure_writes, key_of, stamp_of, 
 use Rattle.kv_model.specs.Pairs.{acknowledged_by, unsure_by}
 use Rattle.kv_model.specs.Reading.{slot_at}
 use Rattle.kv_model.specs.Recovery.{RecoversPrefix, HoldsAll, GivesValue}
-use Rattle.kv_parties.specs.Rows.{row}
 use Rattle.kv_parties.specs.Setting.{Setting, IsOwned}
 use Rattle.kv_parties.specs.Begun.{IsBefore, all_before}
 use Rattle.kv_parties.specs.Causes.{all_writes}

@@ -2,9 +2,7 @@
 use Rattle.std.specs.Prelude.{◌≡◌, ◌≤◌, ◌<◌, ℕ, List, Bool, false}
 use mathlib.Core.List.{IsPrefix}
 use Rattle.kv_base.specs.declared.request.Request.{Request}
-use Rattle.kv_model.specs.Agreement.{AgreesWithMap}
 use Rattle.kv_model.specs.History.{Write}
-use Rattle.kv_model.specs.Order.{RespectsOrder}
 use Rattle.kv_model.specs.Pairs.{Pair, pairs_in}
 use Rattle.kv_stamps.specs.Ranges.{among}
 use Rattle.kv_stamps.specs.declared.view.Range.{Range}

@@ -1,7 +1,10 @@
 -- What the promises of all parties say together.
-use Rattle.std.specs.Prelude.{◌≡◌, ◌≤◌, ◌<◌, ◌+◌, ◌^◌, ℕ, List, [], ◌∷◌, ◌++◌, length, Some}
+use Rattle.std.specs.Prelude.{◌≡◌, ◌≤◌, ◌<◌, ◌+◌, ◌^◌, ℕ, List, [], ◌∷◌, ◌++◌, length, Some, ◌⊎◌}
+use Rattle.std.specs.Prelude.{Contains}
 use Rattle.std.specs.Prelude.{Bool, true, false}
+use Rattle.std.specs.List.{AllByRecursion}
 use mathlib.Core.List.{IsPrefix}
+use Rattle.kv_base.specs.Crash.{MayLeave}
 use Rattle.kv_base.specs.Image.{Image}
 use Rattle.kv_base.specs.Partition.{owner_of}
 use Rattle.kv_base.specs.declared.request.Request.{Request}
@@ -11,18 +14,20 @@ use Rattle.kv_model.specs.History.{Write, value_at}
 use Rattle.kv_model.specs.Items.{SameValue}
 use Rattle.kv_model.specs.Order.{RespectsOrder}
 use Rattle.kv_model.specs.Pairs.{Pair, pairs_in, writes}
+use Rattle.kv_model.specs.Recovery.{RecoversPrefix}
 use Rattle.kv_ring.specs.declared.message.Ask.{Ask}
 use Rattle.kv_ring.specs.declared.message.Answer.{Answer}
 use Rattle.kv_stamps.specs.Ranges.{among, between}
 use Rattle.kv_stamps.specs.Rule.{times_in}
 use Rattle.kv_stamps.specs.Seats.{first_spent}
 use Rattle.kv_parties.specs.Begun.{IsBefore, all_before}
-use Rattle.kv_parties.specs.Causes.{HasCauses}
+use Rattle.kv_parties.specs.Causes.{HasCauses, IsOwn}
 use Rattle.kv_parties.specs.Messages.{all_asking, answered_in, takes_message}
-use Rattle.kv_parties.specs.Promises.{WorkerData, WorkerPromise, SessionPromise}
+use Rattle.kv_parties.specs.Promises.{WorkerData, KeepsMap, WorkerPromise, SessionPromise}
 use Rattle.kv_parties.specs.Recovered.{Recovers, LeavesPrefixes}
 use Rattle.kv_parties.specs.Rows.{sum_below, row}
 use Rattle.kv_parties.specs.Setting.{Setting}
+use Rattle.kv_parties.specs.Stamps.{HasDrawnNone}
 use Rattle.kv_parties.specs.Workers.{done_pairs}
 
 -- what all parties have: the messages and answers that each sent to each and received, by session
@@ -38,6 +43,10 @@ pub record Parties (F D : Type 0) : Type 0 where
   pub groups : ℕ → List (List Pair)
   pub requests : ℕ → List Request
   pub waiting : ℕ → Bool
+
+-- the pair is one of these, or one that its session answered itself
+abbrev pub IsTold : Setting → List Pair → Pair → Type 0
+IsTold setting pairs pair = ∥ Contains pairs pair ⊎ IsOwn setting.layout pair ∥₁
 
 module _ {F D : Type 0} where
   -- all pairs that workers answered: by worker, then by session
@@ -77,15 +86,18 @@ module _ {F D : Type 0} where
   NoneWaits setting parties = (session : ℕ) → session < setting.sessions
       → parties.waiting session ≡ false
 
-  -- the pairs are those of one plain map that began with what all disks kept, each session's stamps
-  -- are in its order, each refusal has its cause, each open worker's store has its part of the map,
-  -- and each disk recovers a prefix of the writes
+  -- the pairs are those of one plain map that began with what all disks kept; each session's stamps
+  -- are in its order, and what it answered is one of the pairs or its own refusal; each refusal has
+  -- its cause, each open worker's store has its part of the map, and each disk recovers a prefix of
+  -- the writes
   pub record Stands (d : disks.Ghosts D) (setting : Setting) (parties : Parties F D)
       (pairs : List Pair) : Type 0 where
     pub right : AgreesWithMap setting.told setting.layout (all_before setting parties.before)
         setting.floor pairs
     pub ordered : (session : ℕ) → session < setting.sessions
         → RespectsOrder (parties.groups session)
+    pub told : (session : ℕ) → session < setting.sessions
+        → AllByRecursion (IsTold setting pairs) (pairs_in (parties.groups session))
     pub causes : (worker : ℕ) → worker < setting.workers → HasCauses setting worker
         (all_before setting parties.before) (parties.workers worker).view.spent
         (d.faults (parties.workers worker).first) (d.faults (parties.workers worker).now)
@@ -154,6 +166,24 @@ SpentHasCause F D d = (setting : Setting) (parties : Parties F D) (next : ℕ)
     → CountsAll setting parties next → (worker number : ℕ) → worker < setting.workers
     → first_spent (parties.workers worker).view.spent ≡ Some number
     → (2 ^ 62 ≤ setting.floor + length (all_answered setting parties)) × (2 ^ 62 < number + 512)
+
+-- a worker that received and sent nothing, drew no stamps and has its disk as it was keeps its promise
+-- from the writes on that its store has and its disk leaves
+abbrev pub WorkerBegins : (F D : Type 0) → disks.Ghosts D → Type 0
+WorkerBegins F D d = (setting : Setting) (worker : ℕ) (before : List Write)
+    (received : ℕ → List (Ask F)) (sent : ℕ → List (Answer F)) (own : WorkerData D)
+    → ((session : ℕ) → session < setting.sessions → (received session ≡ []) × (sent session ≡ []))
+    → HasDrawnNone own.view → own.now ≡ own.first → own.closed ≡ false
+    → KeepsMap setting before own.view own.closed own.store
+    → ((image : Image) → MayLeave (d.leaves own.first (d.calls own.first)) image
+    → RecoversPrefix setting.layout before before image worker setting.workers)
+    → WorkerPromise d setting worker before received sent own
+
+-- a session that sent and received nothing keeps its promise
+abbrev pub SessionBegins : Type 0 → Type 0
+SessionBegins F = (setting : Setting) (sent : ℕ → List (Ask F)) (received : ℕ → List (Answer F))
+    → ((worker : ℕ) → worker < setting.workers → (sent worker ≡ []) × (received worker ≡ []))
+    → SessionPromise setting sent received [] [] false
 
 -- what stands is one fact, however it is shown
 abbrev pub StandsOnce : (F D : Type 0) → disks.Ghosts D → Type 0

@@ -1,5 +1,5 @@
 -- What recovery of one worker's disk gives of the writes of all parties.
-use Rattle.std.specs.Prelude.{◌<◌, ◌≤◌, ℕ, List, [], ◌++◌}
+use Rattle.std.specs.Prelude.{◌≤◌, ℕ, List, [], ◌++◌}
 use Rattle.kv_base.specs.Crash.{MayLeave}
 use Rattle.kv_base.specs.Image.{Image}
 use Rattle.kv_disk.specs.declared.disk.Disk as disks

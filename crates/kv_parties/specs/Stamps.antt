@@ -1,5 +1,5 @@
 -- What a worker promises of the numbers that its seat drew, passed over and met without stamps left.
-use Rattle.std.specs.Prelude.{◌≡◌, ℕ, ◌+◌, ◌<◌, ◌≤◌, List, length, sum_by, All, Contains}
+use Rattle.std.specs.Prelude.{◌≡◌, ℕ, ◌+◌, ◌<◌, ◌≤◌, List, [], length, sum_by, All, Contains}
 use Rattle.std.specs.List.{AllByRecursion}
 use Rattle.kv_model.specs.Pairs.{Pair, stamps}
 use Rattle.kv_stamps.specs.Ranges.{PassesLimit}
@@ -33,3 +33,9 @@ pub record KeepsStamps (setting : Setting) (taken : ℕ → List Asked) (view : 
   pub few : size_of view.drawn + size_of view.spent ≤ length pairs
   pub limits : All IsMet view.spent
   pub gaps : All (IsForGroup setting taken) view.gaps
+
+-- the seat drew no stamps, passed over no numbers and met no end of them
+pub record HasDrawnNone (view : View) : Type 0 where
+  pub drawn : view.drawn ≡ []
+  pub gaps : view.gaps ≡ []
+  pub spent : view.spent ≡ []

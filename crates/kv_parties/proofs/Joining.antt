@@ -19,7 +19,8 @@ use Rattle.kv_parties.specs.Sessions.{Handled, IsHandled, Exchange, exchange_pai
 use Rattle.kv_parties.specs.Sessions.{part_of}
 use Rattle.kv_parties.specs.Sessions.{all_asked}
 use Rattle.kv_parties.specs.Begun.{IsBefore}
-use Rattle.kv_parties.proofs.Rings.{Rings, Course, RingsKeep, IsQuiet, rings_answered, courses_pairs}
+use Rattle.kv_parties.proofs.Rings.{Rings, Course, RingsKeep, IsQuiet, rings_answered}
+use Rattle.kv_parties.proofs.Rings.{courses_pairs}
 use Rattle.kv_parties.proofs.Lists.{In, eq_self, count, In-left, All-In, In-row}
 use Rattle.kv_parties.proofs.Lists.{In-row-back, In-filter, In-filter-back, In-map, In-map-back}
 use Rattle.kv_parties.proofs.Lists.{In-flat_map-back, flat_map-append, count-within, sum_below-le}
@@ -291,7 +292,8 @@ module _ (setting : Setting) (before : ℕ → List Write) (rings : Rings) (rang
       ∙ ap pairs_in back.1)
       (In-left p (pairs_in (rings.heard s w)) (pairs_in back.0) i)
 
-  pub session_fits : (s : ℕ) (lt : s < setting.sessions) (p : Pair) → In p (pairs_in (courses s).groups)
+  pub session_fits : (s : ℕ) (lt : s < setting.sessions) (p : Pair)
+      → In p (pairs_in (courses s).groups)
       → ((w : ℕ) × (w < setting.workers) × In p (own w)) ⊎ IsHere setting.layout p
   session_fits s lt p i =
       let tale = of_session s lt in

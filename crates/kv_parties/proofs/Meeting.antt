@@ -17,7 +17,8 @@ use Rattle.kv_stamps.specs.declared.view.Range.{Range}
 use Rattle.kv_parties.specs.Setting.{Setting}
 use Rattle.kv_parties.specs.Groups.{Answers, replies_of}
 use Rattle.kv_parties.specs.Messages.{group_of, groups_in, asking, all_asking, answered_of}
-use Rattle.kv_parties.specs.Messages.{answered_in, IsPartOf, takes_message, IsWhole, IsAnswerTo, Hears}
+use Rattle.kv_parties.specs.Messages.{answered_in, IsPartOf, takes_message, IsWhole}
+use Rattle.kv_parties.specs.Messages.{IsAnswerTo, Hears}
 use Rattle.kv_parties.specs.Messages.{IsReplied, task_pairs}
 use Rattle.kv_parties.specs.Joined.{Parties, AllKeep, NonePassed, NoneWaits}
 use Rattle.kv_parties.specs.Workers.{done_pairs}
@@ -80,7 +81,8 @@ module _ {F : Type 0} where
     sym (flat_map-append asking xs prefix.0) ∙ ap all_asking prefix.1,
   )
 
-  pub groups_in-prefix : (xs ys : List (Ask F)) → IsPrefix xs ys → IsPrefix (groups_in xs) (groups_in ys)
+  pub groups_in-prefix : (xs ys : List (Ask F)) → IsPrefix xs ys
+      → IsPrefix (groups_in xs) (groups_in ys)
   groups_in-prefix xs ys prefix = (
     groups_in prefix.0,
     sym (flat_map-append group_of xs prefix.0) ∙ ap groups_in prefix.1,
@@ -93,7 +95,8 @@ module _ {F : Type 0} where
     sym (flat_map-append answered_of xs prefix.0) ∙ ap answered_in prefix.1,
   )
 
-  pub groups-asking : (messages : List (Ask F)) → groups_in (all_asking messages) ≡ groups_in messages
+  pub groups-asking : (messages : List (Ask F))
+      → groups_in (all_asking messages) ≡ groups_in messages
   groups-asking [] = refl
   groups-asking (ask.Group seen tasks ∷ messages) =
       ap (λ groups. group_of {F = F} (ask.Group seen tasks) ++ groups) (groups-asking messages)
@@ -228,13 +231,15 @@ module _ {F D : Type 0} (d : disks.Ghosts D) (setting : Setting) (parties : Part
         let worker = keep.workers w less in
         let sent = asks-prefix s w lt less in
         let back = keep.answers s w lt less in
-        let takes : AllByRecursion (λ message. takes_message setting.layout w setting.workers message
+        let takes : AllByRecursion (λ message.
+        takes_message setting.layout w setting.workers message
         ≡ true) (all_asking (parties.asks_received w s)) =
         All-left _ (all_asking (parties.asks_received w s)) sent.0
         (subst (AllByRecursion (λ message.
         takes_message setting.layout w setting.workers message ≡ true)) (sym sent.1)
         ((keep.sessions s lt).taken w less)) in
-        let answered : AreAnswers (all_asking (parties.asks_received w s)) (parties.answers_sent w s) =
+        let answered : AreAnswers (all_asking (parties.asks_received w s))
+        (parties.answers_sent w s) =
         by_place setting.layout w setting.workers (all_asking (parties.asks_received w s))
         (parties.answers_sent w s) (passed s w lt less) takes (worker.whole s lt)
         (subst (λ messages. Answers (groups_in messages) (answered_in (parties.answers_sent w s)))
@@ -297,7 +302,8 @@ module _ {F D : Type 0} (d : disks.Ghosts D) (setting : Setting) (parties : Part
     same_history w less = refl
 
     -- where no session waits, all that was answered was heard
-    pub all_quiet : NoneWaits setting parties → IsQuiet setting (rings_of parties) (courses_of parties)
+    pub all_quiet : NoneWaits setting parties
+        → IsQuiet setting (rings_of parties) (courses_of parties)
     all_quiet quiet = record {
       waits = quiet;
       heard = λ s w lt less. ap answered_in (prefix-whole (parties.answers_received s w)
@@ -325,7 +331,8 @@ module _ {F D : Type 0} (d : disks.Ghosts D) (setting : Setting) (parties : Part
         let session = keep.sessions s lt in
         let longer = all_asking-prefix (parties.asks_received w s ++ message ∷ [])
         (parties.asks_sent s w) more in
-        let parts : all_asking (parties.asks_received w s ++ message ∷ []) ≡ received ++ message ∷ [] =
+        let parts : all_asking (parties.asks_received w s ++ message ∷ [])
+        ≡ received ++ message ∷ [] =
         flat_map-append asking (parties.asks_received w s) (message ∷ [])
         ∙ ap (λ last. received ++ last) one in
         let all : (received ++ message ∷ []) ++ longer.0 ≡ all_asking (parties.asks_sent s w) =

@@ -55,7 +55,8 @@ refuses P bad large memory layout pair here =
 
 -- its reply carries no stamp
 pub stampless : (layout : Layout) (pair : Pair) → IsHere layout pair → stamp_of pair.reply ≡ None
-stampless layout pair here = refuses (λ reply. stamp_of reply ≡ None) refl refl refl layout pair here
+stampless layout pair here =
+    refuses (λ reply. stamp_of reply ≡ None) refl refl refl layout pair here
 
 no_memory : (told : Bool) (layout : Layout) (history : List Write) (request : Request)
     (reply : Reply) → IsSome (key_of request) → reply ≡ NoMemory

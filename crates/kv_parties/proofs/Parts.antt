@@ -101,7 +101,8 @@ module _ (layout : Layout) (n : ℕ) (some : 1 ≤ n) where
       (elim h.routed as (λ b. h.routed ≡ b → b ≡ true) [
         | true ↦ λ r. refl
         | false ↦ λ r.
-            let none : None ≡ Some t = sym (stampless layout h.pair (here h is r)) ∙ e in absurd (cc)
+            let none : None ≡ Some t = sym (stampless layout h.pair (here h is r)) ∙ e in
+            absurd (cc)
       ]) refl
 
   in_part : (h : Handled) (w : ℕ) (handled : List Handled) → goes_to n w h ≡ true → In h handled
@@ -220,7 +221,8 @@ module _ (layout : Layout) (n : ℕ) (some : 1 ≤ n) where
           weigh-append f (exchange_pairs r) (pairs_in (map exchange_pairs exchanges)),
           weigh-parts r.handled is.0,
           weigh-exchanges exchanges is.1,
-          sum_below-same n (λ w. weigh f (pairs_in (answered_by (part_of n w r.handled) ++ later w)))
+          sum_below-same n
+              (λ w. weigh f (pairs_in (answered_by (part_of n w r.handled) ++ later w)))
               (λ w. weigh f (part_of n w r.handled) + weigh f (pairs_in (later w)))
               (λ w lt. part w),
           sum_below-add n (λ w. weigh f (part_of n w r.handled))

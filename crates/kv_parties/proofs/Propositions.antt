@@ -181,4 +181,12 @@ told-prop setting pairs told =
 
 pub stands-prop : {F D : Type 0} (d : disks.Ghosts D) (setting : Setting) (parties : Parties F D)
     (pairs : List Pair) → IsProp (Stands d setting parties pairs)
-stands-prop d setting parties pairs = hlevel (props, agrees-prop, order-prop, told-prop, causes-prop, same_value-prop, leaves-prop)
+stands-prop d setting parties pairs = hlevel (
+  props,
+  agrees-prop,
+  order-prop,
+  told-prop,
+  causes-prop,
+  same_value-prop,
+  leaves-prop,
+)

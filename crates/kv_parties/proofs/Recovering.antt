@@ -56,15 +56,16 @@ of-one pair v u (inr e) (inr f) = from_some v u (sym e ∙ f)
 abbrev pub left_by : List Pair → List Write
 left_by pairs = writes pairs ++ unsure_writes pairs
 
-pub left-In : (x : Write) (p : Pair) (pairs : List Pair) → IsOf p x → In p pairs → In x (left_by pairs)
+pub left-In : (x : Write) (p : Pair) (pairs : List Pair) → IsOf p x → In p pairs
+    → In x (left_by pairs)
 left-In x p pairs (inl e) i =
     In-left x (writes pairs) (unsure_writes pairs) (In-filter_map acknowledged p x pairs e i)
 left-In x p pairs (inr e) i =
     In-right x (writes pairs) (unsure_writes pairs)
     (In-filter_map (λ (q : Pair). unsure_by q.request q.reply) p x pairs e i)
 
-pub In-left_by : (x : Write) (pairs : List Pair) → In x (left_by pairs) → (p : Pair) × IsOf p x × In p
-    pairs
+pub In-left_by : (x : Write) (pairs : List Pair) → In x (left_by pairs)
+    → (p : Pair) × IsOf p x × In p pairs
 In-left_by x pairs i = ⊎_elim
     (λ (a : In x (writes pairs)).
     let m = In-filter_map-back acknowledged x pairs a in (m.0, inl m.1, m.2))
@@ -182,8 +183,8 @@ module _ (setting : Setting) (before : ℕ → List Write) (base : IsBefore sett
 
   recovers-so : (w : ℕ) (image : Image) (mine all : List Pair) → w < setting.workers
       → AreOwnAlso w mine all
-      → RecoversPrefix setting.layout (all_writes (before w) (own w)) (before w ++ writes mine) image
-      w setting.workers
+      → RecoversPrefix setting.layout (all_writes (before w) (own w))
+      (before w ++ writes mine) image w setting.workers
       → RecoversPrefix setting.layout (all_writes (all_before setting before) pairs)
       (all_before setting before ++ writes all) image w setting.workers
   recovers-so w image mine all lt also of_own = record {

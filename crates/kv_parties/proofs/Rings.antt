@@ -12,8 +12,8 @@ use Rattle.kv_parties.specs.Sessions.{AsksGroups}
 use Rattle.kv_parties.specs.Setting.{Setting}
 use Rattle.kv_parties.specs.Workers.{AnswersGroups}
 
--- what each session asked of each worker, what that worker took of it and answered, and what of this
--- the session heard
+-- what each session asked of each worker, what that worker took of it and answered, and what of
+-- this the session heard
 pub record Rings : Type 0 where
   pub asked : ℕ → ℕ → List Asked
   pub taken : ℕ → ℕ → List Asked

@@ -1,5 +1,6 @@
 -- A worker meets no stamps left only where all numbers were given.
-use Rattle.std.proofs.Common.{◌≡◌, ◌⊎◌, inl, inr, ⊎_elim, ℕ, zero, suc, ◌+◌, ◌-◌, ◌^◌, ◌<◌, ◌≤◌, List}
+use Rattle.std.proofs.Common.{◌≡◌, ◌⊎◌, inl, inr, ⊎_elim, ℕ, zero, suc, ◌+◌, ◌-◌, ◌^◌, ◌<◌, ◌≤◌}
+use Rattle.std.proofs.Common.{List}
 use Rattle.std.proofs.Common.{[], ◌∷◌, ◌++◌, length, map, None, Some, Bool, true, false}
 use Rattle.std.proofs.Common.{refl, sym, ap, ◌∙◌, subst, arith, Contains}
 use Rattle.std.proofs.lemmas.Bool.Decides.{nat_tests}
@@ -17,7 +18,8 @@ use Rattle.kv_stamps.specs.declared.view.Range.{Range}
 use Rattle.kv_stamps.specs.declared.view.View.{View}
 use Rattle.kv_parties.specs.Begun.{IsBefore}
 use Rattle.kv_parties.specs.Groups.{Asked}
-use Rattle.kv_parties.specs.Joined.{Parties, AllKeep, NonePassed, CountsAll, all_answered}
+use Rattle.kv_parties.specs.Joined.{Parties, AllKeep, NonePassed, all_answered}
+use Rattle.kv_parties.specs.Laws.{CountsAll}
 use Rattle.kv_parties.specs.Messages.{groups_in}
 use Rattle.kv_parties.specs.Rows.{sum_below}
 use Rattle.kv_parties.specs.Sessions.{Exchange, exchange_pairs, part_of, asked_by, all_asked}
@@ -296,7 +298,8 @@ module _ {F D : Type 0} (d : disks.Ghosts D) (setting : Setting) (parties : Part
   no_gaps : (w : ℕ) → w < setting.workers → (view w).gaps ≡ []
   no_gaps w less =
       (elim (view w).gaps as (λ gaps. (view w).gaps ≡ gaps
-      → All (IsForGroup setting (λ s. groups_in ((keep.workers w less).taken s))) gaps → gaps ≡ []) [
+      → All (IsForGroup setting (λ s. groups_in ((keep.workers w less).taken s))) gaps
+      → gaps ≡ []) [
         | [] ↦ λ e all. refl
         | gap ∷ gaps ↦ λ e all.
             let is = All-head (IsForGroup setting

@@ -115,7 +115,8 @@ module _ {F D : Type 0} (d : disks.Ghosts D) (setting : Setting) (parties : Part
       → Stands d setting parties (all_pairs setting parties)
   sessions_stand quiet = stands_of (all_pairs setting parties) (sessions_fit setting parties.before
       (rings_of parties) (ranges_of parties) (courses_of parties)
-      (rings_keep d setting parties keep passed) base (all_quiet d setting parties keep passed quiet))
+      (rings_keep d setting parties keep passed) base
+      (all_quiet d setting parties keep passed quiet))
 
 -- recovery of what was answered earlier
 pub recovery : {F D : Type 0} (d : disks.Ghosts D) (setting : Setting)

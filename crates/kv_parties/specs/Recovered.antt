@@ -15,8 +15,8 @@ abbrev pub Recovers : Setting → ℕ → Image → List Write → List Pair →
 Recovers setting worker image before acknowledged pairs = ∥ RecoversPrefix setting.layout
     (all_writes before pairs) (before ++ writes acknowledged) image worker setting.workers ∥₁
 
--- at each moment from the disk as it was to the disk as it is a crash leaves a prefix that holds all
--- earlier writes, and at the last one all acknowledged ones too
+-- at each moment from the disk as it was to the disk as it is a crash leaves a prefix that holds
+-- all earlier writes, and at the last one all acknowledged ones too
 pub record LeavesPrefixes {D : Type 0} (d : disks.Ghosts D) (setting : Setting) (worker : ℕ)
     (first now : D) (before : List Write) (pairs : List Pair) : Type 0 where
   pub later : d.calls first ≤ d.calls now

@@ -1,6 +1,6 @@
 ghost use Rattle.kv_parties.specs.Begun.{KeptItemsBegin};
-ghost use Rattle.kv_parties.specs.Joined.{PromisesJoin, PromisesEnd, OwesNone, RecoveryJoins};
-ghost use Rattle.kv_parties.specs.Joined.{SpentHasCause, StandsOnce, WorkerBegins, SessionBegins};
+ghost use Rattle.kv_parties.specs.Laws.{PromisesJoin, PromisesEnd, OwesNone, RecoveryJoins};
+ghost use Rattle.kv_parties.specs.Laws.{SpentHasCause, StandsOnce, WorkerBegins, SessionBegins};
 
 use kv_disk::Disk;
 

@@ -1,15 +1,14 @@
 -- Pairs that are the workers' own agree with one plain map.
 use Rattle.std.proofs.Common.{◌≡◌, ◌≢◌, ◌⊎◌, inl, inr, ⊎_elim, ℕ, ◌+◌, ◌-◌, ◌^◌, ◌<◌, ◌≤◌, List, []}
-use Rattle.std.proofs.Common.{◌∷◌, ◌++◌, map, Option, None, Some, Bool, true, false, cond, refl}
+use Rattle.std.proofs.Common.{◌∷◌, ◌++◌, Option, None, Some, Bool, refl}
 use Rattle.std.proofs.Common.{sym, ap, ◌∙◌, subst, arith}
-use Rattle.std.specs.Prelude.{nat_eq, MatchOption, IsTrue, is_some, IfSome, option_and_then}
-use Rattle.std.specs.List.{AllByRecursion, filter_map, cons_option}
+use Rattle.std.specs.Prelude.{MatchOption, IsTrue, is_some, IfSome, option_and_then}
+use Rattle.std.specs.List.{AllByRecursion, cons_option}
 use Rattle.std.proofs.lemmas.Bool.Decides.{nat_tests}
 use Rattle.kv_base.specs.declared.request.Request.{Request}
 use Rattle.kv_base.specs.declared.request.Request.TheVariants.{Put, Get, Delete}
 use Rattle.kv_base.specs.declared.reply.Reply.{Reply}
 use Rattle.kv_base.specs.declared.reply.Reply.TheVariants.{Stored, Found, Missing, Removed, Absent}
-use Rattle.kv_base.specs.declared.reply.Reply.TheVariants.{Unsure}
 use Rattle.kv_base.specs.Partition.{owner_of}
 use Rattle.kv_stamps.specs.Ranges.{among}
 use Rattle.kv_stamps.specs.declared.view.Range.{Range}
@@ -17,10 +16,10 @@ use Rattle.kv_model.specs.History.{Write, value_at}
 use Rattle.kv_model.specs.Pairwise.{Pairwise}
 use Rattle.kv_model.specs.Layout.{Layout}
 use Rattle.kv_model.specs.Pairs.{Pair, writes, stamps, written, key_of, stamp_of, acknowledged}
-use Rattle.kv_model.specs.Pairs.{acknowledged_by, unsure_by, unsure_writes}
+use Rattle.kv_model.specs.Pairs.{acknowledged_by}
 use Rattle.kv_model.specs.Agreement.{AgreesWithMap, IsAnswer, IsMapAnswer, IsRead}
 use Rattle.kv_model.specs.Agreement.{refusal_of}
-use Rattle.kv_parties.specs.Rows.{sum_below, row}
+use Rattle.kv_parties.specs.Rows.{sum_below}
 use Rattle.kv_parties.specs.Setting.{Setting, IsOwned}
 use Rattle.kv_parties.specs.Begun.{IsBefore, all_before}
 use Rattle.kv_parties.proofs.Lists.{In, count, In-left, In-right, In-append, All-In, In-All}

@@ -1,18 +1,18 @@
 -- The causes of a worker's refusals, over the pairs of all parties.
-use Rattle.std.proofs.Common.{◌≡◌, ◌≢◌, ◌⊎◌, inl, inr, ⊎_elim, ℕ, zero, suc, ◌+◌, ◌-◌, ◌*◌, ◌^◌, ◌<◌}
-use Rattle.std.proofs.Common.{◌≤◌, List, [], ◌∷◌, ◌++◌, length, Option, None, Some, Bool, true, false}
+use Rattle.std.proofs.Common.{◌≡◌, ◌⊎◌, inl, inr, ⊎_elim, ℕ, suc, ◌+◌, ◌-◌, ◌*◌, ◌^◌, ◌<◌}
+use Rattle.std.proofs.Common.{◌≤◌, List, [], ◌∷◌, ◌++◌, length, Some, Bool, true, false}
 use Rattle.std.proofs.Common.{cond, refl, sym, ap, ◌∙◌, subst, arith, Contains}
 use Rattle.std.proofs.Math.Logic.{∥∥₁_map}
 use Rattle.std.proofs.lemmas.Bool.Decides.{nat_tests}
 use Rattle.std.proofs.lemmas.List.Sums.{sum_by-cons}
-use Rattle.std.specs.Prelude.{nat_eq, min, count_by, ◌||◌, IsTrue, IfSome, IsSome}
+use Rattle.std.specs.Prelude.{nat_eq, min, count_by, ◌||◌}
 use Rattle.std.specs.List.{AllByRecursion, filter, list_any}
 use Rattle.kv_base.specs.Calls.{next_count}
 use Rattle.kv_base.specs.Partition.{owner_of}
 use Rattle.kv_base.specs.declared.request.Request.{Request}
 use Rattle.kv_base.specs.declared.request.Request.TheVariants.{Put, Get, Delete, Flush}
 use Rattle.kv_base.specs.declared.reply.Reply.{Reply}
-use Rattle.kv_base.specs.declared.reply.Reply.TheVariants.{BadKey, TooLarge, NoMemory, Full}
+use Rattle.kv_base.specs.declared.reply.Reply.TheVariants.{Full}
 use Rattle.kv_base.specs.declared.reply.Reply.TheVariants.{Closed, StampsSpent}
 use Rattle.kv_stamps.specs.declared.view.Range.{Range}
 use Rattle.kv_model.specs.Agreement.{IsAnswer}
@@ -22,17 +22,16 @@ use Rattle.kv_model.specs.Layout.{Layout}
 use Rattle.kv_model.specs.Pairs.{Pair, pairs_in, writes, unsure_writes, key_of}
 use Rattle.kv_model.proofs.ContainsLemmas.{Contains-cons, Contains-first, Contains-behind}
 use Rattle.kv_parties.specs.Begun.{IsBefore, all_before}
-use Rattle.kv_parties.specs.Causes.{is_unsure, is_fault, any_unsure, any_fault, count_unsure}
-use Rattle.kv_parties.specs.Causes.{count_faults, faults_behind, IsClosedAt, AreClosedBehind}
-use Rattle.kv_parties.specs.Causes.{IsSpentAt, HasKeysOf, HasNoSlot, IsFullAt, all_writes}
+use Rattle.kv_parties.specs.Causes.{is_unsure, is_fault, any_unsure, any_fault}
+use Rattle.kv_parties.specs.Causes.{faults_behind, IsClosedAt, AreClosedBehind}
+use Rattle.kv_parties.specs.Causes.{IsSpentAt, HasNoSlot, IsFullAt, all_writes}
 use Rattle.kv_parties.specs.Causes.{KeepsCauses, HasCauses, most_tasks}
-use Rattle.kv_parties.specs.Rows.{sum_below, row}
 use Rattle.kv_parties.specs.Setting.{Setting, IsOwned, owns, owned_pairs, owned_writes}
 use Rattle.kv_parties.proofs.Lists.{In, In-left, In-right, In-append, All-In, In-All, In-filter}
 use Rattle.kv_parties.proofs.Lists.{In-filter-back, In-row, sum_below-le, sum_below-one}
 use Rattle.kv_parties.proofs.Owned.{IsHere, refuses}
 use Rattle.kv_parties.proofs.Agreeing.{weigh, weigh-append, weigh-le, owner-of, Owns, Fits}
-use Rattle.kv_parties.proofs.Recovering.{IsOf, of-is, left_by, left-In, In-left_by}
+use Rattle.kv_parties.proofs.Recovering.{of-is, left_by, left-In, In-left_by}
 
 -- 1 where the pair passes the test, and else 0
 abbrev mark : (Pair → Bool) → Pair → ℕ
@@ -121,11 +120,11 @@ faults-few (b ∷ batches) n few lt =
             few.0,
           )
       | false ↦ λ e lt. omega (
-          arith,
-          weigh-append (mark tells_fault) b (pairs_in batches),
-          weigh-none tells_fault b e,
-          faults-few batches n few.1 lt,
-        )
+        arith,
+        weigh-append (mark tells_fault) b (pairs_in batches),
+        weigh-none tells_fault b e,
+        faults-few batches n few.1 lt,
+      )
     ]) refl lt
 
 -- a closed store answers nothing that is unsure
@@ -155,18 +154,18 @@ unsure-few (b ∷ batches) few closes =
     (elim (any_unsure b) as (λ c. any_unsure b ≡ c → AreClosedBehind c batches
     → weigh (mark is_unsure_pair) (b ++ pairs_in batches) ≤ most_tasks) [
       | true ↦ λ e later. omega (
-          arith,
-          weigh-append (mark is_unsure_pair) b (pairs_in batches),
-          weigh-length is_unsure_pair b,
-          few.0,
-          closed-sure batches later,
-        )
+        arith,
+        weigh-append (mark is_unsure_pair) b (pairs_in batches),
+        weigh-length is_unsure_pair b,
+        few.0,
+        closed-sure batches later,
+      )
       | false ↦ λ e later. omega (
-          arith,
-          weigh-append (mark is_unsure_pair) b (pairs_in batches),
-          weigh-none is_unsure_pair b e,
-          unsure-few batches few.1 later,
-        )
+        arith,
+        weigh-append (mark is_unsure_pair) b (pairs_in batches),
+        weigh-none is_unsure_pair b e,
+        unsure-few batches few.1 later,
+      )
     ]) refl closes.1
 
 -- Closed comes only behind a reply that is unsure
@@ -190,7 +189,7 @@ closed-cause (b ∷ batches) p closes i e = ⊎_elim
     ]) refl closes.1)
     (In-append p b (pairs_in batches) i)
 
-In-Contains : {X : Type 0} (x : X) (xs : List X) → In x xs → Contains xs x
+pub In-Contains : {X : Type 0} (x : X) (xs : List X) → In x xs → Contains xs x
 In-Contains x [] i = absurd i
 In-Contains x (y ∷ xs) (inl e) = subst (Contains (y ∷ xs)) e (Contains-first y xs)
 In-Contains x (y ∷ xs) (inr i) = Contains-behind y xs x (In-Contains x xs i)

@@ -1,26 +1,27 @@
 -- The promises of all parties together.
-use Rattle.std.proofs.Common.{◌≡◌, ◌⊎◌, inl, inr, ⊎_elim, ℕ, zero, suc, ◌+◌, ◌^◌, ◌<◌, ◌≤◌, List}
-use Rattle.std.proofs.Common.{[], ◌∷◌, ◌++◌, map, Bool, true, false, cond, refl, sym, ap, ◌∙◌}
+use Rattle.std.proofs.Common.{◌≡◌, ◌⊎◌, inl, inr, ℕ, zero, suc, ◌+◌, ◌^◌, ◌<◌, ◌≤◌, List}
+use Rattle.std.proofs.Common.{[], ◌∷◌, ◌++◌, map, true, false, cond, refl, sym, ap, ◌∙◌}
 use Rattle.std.proofs.Common.{subst, arith, append-nil}
 use Rattle.std.specs.Prelude.{nat_eq}
-use Rattle.std.specs.List.{AllByRecursion, filter, flat_map}
+use Rattle.std.specs.List.{AllByRecursion, filter}
 use Rattle.kv_base.specs.Partition.{owner_of}
 use Rattle.kv_stamps.specs.Ranges.{among}
 use Rattle.kv_stamps.specs.declared.view.Range.{Range}
 use Rattle.kv_model.specs.History.{Write}
-use Rattle.kv_model.specs.Pairs.{Pair, writes, stamps, stamp_of, pairs_in}
+use Rattle.kv_model.specs.Pairs.{Pair, writes, stamps, pairs_in}
 use Rattle.kv_model.specs.Agreement.{IsAnswer}
 use Rattle.kv_model.specs.Order.{RespectsOrder}
 use Rattle.kv_parties.specs.Rows.{sum_below, row}
 use Rattle.kv_parties.specs.Setting.{Setting, IsOwned}
 use Rattle.kv_parties.specs.Groups.{Asked, Answers}
 use Rattle.kv_parties.specs.Workers.{Done, done_pairs, done_for}
-use Rattle.kv_parties.specs.Sessions.{Handled, IsHandled, Exchange, exchange_pairs, goes_to}
+use Rattle.kv_parties.specs.Sessions.{Handled, IsHandled, Exchange, exchange_pairs}
 use Rattle.kv_parties.specs.Sessions.{part_of}
 use Rattle.kv_parties.specs.Sessions.{all_asked}
 use Rattle.kv_parties.specs.Begun.{IsBefore}
-use Rattle.kv_parties.proofs.Rings.{Rings, Course, RingsKeep, IsQuiet, rings_answered, courses_pairs}
-use Rattle.kv_parties.proofs.Lists.{In, eq_self, count, In-left, In-right, All-In, In-All, In-row}
+use Rattle.kv_parties.proofs.Rings.{Rings, Course, RingsKeep, IsQuiet, rings_answered}
+use Rattle.kv_parties.proofs.Rings.{courses_pairs}
+use Rattle.kv_parties.proofs.Lists.{In, eq_self, count, In-left, All-In, In-row}
 use Rattle.kv_parties.proofs.Lists.{In-row-back, In-filter, In-filter-back, In-map, In-map-back}
 use Rattle.kv_parties.proofs.Lists.{In-flat_map-back, flat_map-append, count-within, sum_below-le}
 use Rattle.kv_parties.proofs.Lists.{sum_below-same, sum_below-zero, sum_below-add, sum_below-swap}
@@ -272,6 +273,15 @@ module _ (setting : Setting) (before : ℕ → List Write) (rings : Rings) (rang
       ap pairs_in (tale.answers w less) ∙ flat_map-append (λ (pairs : List Pair). pairs)
       (all_parts setting.workers w tale.exchanges) (tale.coming w less)
 
+  came-In : (s : ℕ) (lt : s < setting.sessions) (w : ℕ) (less : w < setting.workers) (p : Pair)
+      → In p (pairs_in (all_parts setting.workers w (of_session s lt).exchanges))
+      → In p (pairs_in (rings.heard s w))
+  came-In s lt w less p i =
+      let parts : List Pair = pairs_in (all_parts setting.workers w (of_session s lt).exchanges) in
+      let more : List Pair = pairs_in ((of_session s lt).coming w less) in
+      let whole : pairs_in (rings.heard s w) ≡ parts ++ more = came s lt w less in
+      subst (In p) (sym {b = parts ++ more} whole) (In-left p parts more i)
+
   -- what a worker answered a session is what this has heard, and more
   answered-heard : (s : ℕ) (lt : s < setting.sessions) (w : ℕ) (less : w < setting.workers) (p :
       Pair)
@@ -282,7 +292,8 @@ module _ (setting : Setting) (before : ℕ → List Write) (rings : Rings) (rang
       ∙ ap pairs_in back.1)
       (In-left p (pairs_in (rings.heard s w)) (pairs_in back.0) i)
 
-  pub session_fits : (s : ℕ) (lt : s < setting.sessions) (p : Pair) → In p (pairs_in (courses s).groups)
+  pub session_fits : (s : ℕ) (lt : s < setting.sessions) (p : Pair)
+      → In p (pairs_in (courses s).groups)
       → ((w : ℕ) × (w < setting.workers) × In p (own w)) ⊎ IsHere setting.layout p
   session_fits s lt p i =
       let tale = of_session s lt in
@@ -305,11 +316,9 @@ module _ (setting : Setting) (before : ℕ → List Write) (rings : Rings) (rang
             let came_in : In h.0.pair (pairs_in (all_parts setting.workers w tale.exchanges)) =
             in_answered setting.layout setting.workers base.some_worker w h.0 r.0
             tale.exchanges r.2 h.2 to.2 in
-            let heard : In p (pairs_in (rings.heard s w)) = subst (In p) (sym (came s lt w less))
-            (In-left p (pairs_in (all_parts setting.workers w tale.exchanges))
-            (pairs_in (tale.coming w less))
+            let heard : In p (pairs_in (rings.heard s w)) = came-In s lt w less p
             (subst (λ q. In q (pairs_in (all_parts setting.workers w tale.exchanges))) h.1
-            came_in)) in
+            came_in) in
             inl (w, less, in_own w s p less lt (answered-heard s lt w less p heard))
         | false ↦ λ e. inr (subst (IsHere setting.layout) h.1
             (here setting.layout setting.workers base.some_worker h.0 is e))

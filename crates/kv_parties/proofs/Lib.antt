@@ -12,4 +12,5 @@ mod Meeting
 mod Causing
 mod Standing
 mod Spending
+mod Starting
 mod Propositions

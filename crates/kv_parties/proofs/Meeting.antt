@@ -1,6 +1,6 @@
 -- The promises of all parties on rings, as those on groups and their answers.
-use Rattle.std.proofs.Common.{◌≡◌, ◌⊎◌, inl, inr, ℕ, suc, ◌+◌, ◌<◌, ◌≤◌, List, [], ◌∷◌, ◌++◌, length}
-use Rattle.std.proofs.Common.{Option, Some, Bool, true, false, refl, sym, ap, ap₂, ◌∙◌, subst, arith}
+use Rattle.std.proofs.Common.{◌≡◌, inl, inr, ℕ, suc, ◌<◌, ◌≤◌, List, [], ◌∷◌, ◌++◌, length}
+use Rattle.std.proofs.Common.{true, false, refl, sym, ap, ap₂, ◌∙◌, subst, arith}
 use Rattle.std.proofs.Common.{append-nil, append_assoc}
 use Rattle.std.proofs.lemmas.List.{length-append, length-map}
 use Rattle.std.specs.List.{AllByRecursion, cons_option}
@@ -8,8 +8,6 @@ use Rattle.std.specs.Option.{option_map}
 use mathlib.Core.List.{IsPrefix}
 use Rattle.kv_disk.specs.declared.disk.Disk as disks
 use Rattle.kv_model.specs.Layout.{Layout}
-use Rattle.kv_model.specs.Pairs.{Pair}
-use Rattle.kv_ring.specs.Tasks.{requests_of}
 use Rattle.kv_ring.specs.declared.task.Task.{Task}
 use Rattle.kv_ring.specs.declared.message.Ask.{Ask}
 use Rattle.kv_ring.specs.declared.message.Ask.TheVariants as ask
@@ -17,10 +15,11 @@ use Rattle.kv_ring.specs.declared.message.Answer.{Answer}
 use Rattle.kv_ring.specs.declared.message.Answer.TheVariants as answer
 use Rattle.kv_stamps.specs.declared.view.Range.{Range}
 use Rattle.kv_parties.specs.Setting.{Setting}
-use Rattle.kv_parties.specs.Groups.{Asked, Answers, replies_of}
+use Rattle.kv_parties.specs.Groups.{Answers, replies_of}
 use Rattle.kv_parties.specs.Messages.{group_of, groups_in, asking, all_asking, answered_of}
-use Rattle.kv_parties.specs.Messages.{answered_in, IsPartOf, takes_message, IsWhole, IsAnswerTo, Hears}
-use Rattle.kv_parties.specs.Messages.{IsReplied, pair_of, task_pairs}
+use Rattle.kv_parties.specs.Messages.{answered_in, IsPartOf, takes_message, IsWhole}
+use Rattle.kv_parties.specs.Messages.{IsAnswerTo, Hears}
+use Rattle.kv_parties.specs.Messages.{IsReplied, task_pairs}
 use Rattle.kv_parties.specs.Joined.{Parties, AllKeep, NonePassed, NoneWaits}
 use Rattle.kv_parties.specs.Workers.{done_pairs}
 use Rattle.kv_parties.proofs.Lists.{flat_map-append}
@@ -68,8 +67,10 @@ replied_length : (tasks : List Task) → AllByRecursion IsReplied tasks
     → length (task_pairs tasks) ≡ length tasks
 replied_length [] all = refl
 replied_length (task ∷ tasks) all =
-    subst (λ o. length (cons_option (option_map (λ reply. record { request = task.request;
-    reply = reply }) o) (task_pairs tasks)) ≡ suc (length tasks)) (sym all.0.is)
+    subst (λ o. length (cons_option (option_map (λ reply. record {
+      request = task.request;
+      reply = reply;
+    }) o) (task_pairs tasks)) ≡ suc (length tasks)) (sym all.0.is)
     (ap suc (replied_length tasks all.1))
 
 module _ {F : Type 0} where
@@ -80,7 +81,8 @@ module _ {F : Type 0} where
     sym (flat_map-append asking xs prefix.0) ∙ ap all_asking prefix.1,
   )
 
-  pub groups_in-prefix : (xs ys : List (Ask F)) → IsPrefix xs ys → IsPrefix (groups_in xs) (groups_in ys)
+  pub groups_in-prefix : (xs ys : List (Ask F)) → IsPrefix xs ys
+      → IsPrefix (groups_in xs) (groups_in ys)
   groups_in-prefix xs ys prefix = (
     groups_in prefix.0,
     sym (flat_map-append group_of xs prefix.0) ∙ ap groups_in prefix.1,
@@ -93,7 +95,8 @@ module _ {F : Type 0} where
     sym (flat_map-append answered_of xs prefix.0) ∙ ap answered_in prefix.1,
   )
 
-  pub groups-asking : (messages : List (Ask F)) → groups_in (all_asking messages) ≡ groups_in messages
+  pub groups-asking : (messages : List (Ask F))
+      → groups_in (all_asking messages) ≡ groups_in messages
   groups-asking [] = refl
   groups-asking (ask.Group seen tasks ∷ messages) =
       ap (λ groups. group_of {F = F} (ask.Group seen tasks) ++ groups) (groups-asking messages)
@@ -228,13 +231,15 @@ module _ {F D : Type 0} (d : disks.Ghosts D) (setting : Setting) (parties : Part
         let worker = keep.workers w less in
         let sent = asks-prefix s w lt less in
         let back = keep.answers s w lt less in
-        let takes : AllByRecursion (λ message. takes_message setting.layout w setting.workers message
+        let takes : AllByRecursion (λ message.
+        takes_message setting.layout w setting.workers message
         ≡ true) (all_asking (parties.asks_received w s)) =
         All-left _ (all_asking (parties.asks_received w s)) sent.0
         (subst (AllByRecursion (λ message.
         takes_message setting.layout w setting.workers message ≡ true)) (sym sent.1)
         ((keep.sessions s lt).taken w less)) in
-        let answered : AreAnswers (all_asking (parties.asks_received w s)) (parties.answers_sent w s) =
+        let answered : AreAnswers (all_asking (parties.asks_received w s))
+        (parties.answers_sent w s) =
         by_place setting.layout w setting.workers (all_asking (parties.asks_received w s))
         (parties.answers_sent w s) (passed s w lt less) takes (worker.whole s lt)
         (subst (λ messages. Answers (groups_in messages) (answered_in (parties.answers_sent w s)))
@@ -297,7 +302,8 @@ module _ {F D : Type 0} (d : disks.Ghosts D) (setting : Setting) (parties : Part
     same_history w less = refl
 
     -- where no session waits, all that was answered was heard
-    pub all_quiet : NoneWaits setting parties → IsQuiet setting (rings_of parties) (courses_of parties)
+    pub all_quiet : NoneWaits setting parties
+        → IsQuiet setting (rings_of parties) (courses_of parties)
     all_quiet quiet = record {
       waits = quiet;
       heard = λ s w lt less. ap answered_in (prefix-whole (parties.answers_received s w)
@@ -325,7 +331,8 @@ module _ {F D : Type 0} (d : disks.Ghosts D) (setting : Setting) (parties : Part
         let session = keep.sessions s lt in
         let longer = all_asking-prefix (parties.asks_received w s ++ message ∷ [])
         (parties.asks_sent s w) more in
-        let parts : all_asking (parties.asks_received w s ++ message ∷ []) ≡ received ++ message ∷ [] =
+        let parts : all_asking (parties.asks_received w s ++ message ∷ [])
+        ≡ received ++ message ∷ [] =
         flat_map-append asking (parties.asks_received w s) (message ∷ [])
         ∙ ap (λ last. received ++ last) one in
         let all : (received ++ message ∷ []) ++ longer.0 ≡ all_asking (parties.asks_sent s w) =

@@ -1,6 +1,6 @@
 -- Pairs that a session answers itself.
-use Rattle.std.proofs.Common.{◌≡◌, ◌∷◌, List, Option, None, Some, Bool, true, false, refl, sym, ap}
-use Rattle.std.proofs.Common.{◌∙◌, subst, length, cond}
+use Rattle.std.proofs.Common.{◌≡◌, List, Option, None, Some, Bool, true, false, refl, sym}
+use Rattle.std.proofs.Common.{subst, length, cond}
 use Rattle.std.specs.Prelude.{IsSome, MatchOption, is_some}
 use Rattle.kv_base.specs.declared.request.Request.{Request}
 use Rattle.kv_base.specs.declared.request.Request.TheVariants.{Put, Get, Delete, Flush}
@@ -55,7 +55,8 @@ refuses P bad large memory layout pair here =
 
 -- its reply carries no stamp
 pub stampless : (layout : Layout) (pair : Pair) → IsHere layout pair → stamp_of pair.reply ≡ None
-stampless layout pair here = refuses (λ reply. stamp_of reply ≡ None) refl refl refl layout pair here
+stampless layout pair here =
+    refuses (λ reply. stamp_of reply ≡ None) refl refl refl layout pair here
 
 no_memory : (told : Bool) (layout : Layout) (history : List Write) (request : Request)
     (reply : Reply) → IsSome (key_of request) → reply ≡ NoMemory

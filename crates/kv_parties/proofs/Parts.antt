@@ -1,24 +1,22 @@
 -- The workers' parts of a session's groups.
-use Rattle.std.proofs.Common.{◌≡◌, ◌≢◌, ◌⊎◌, inl, inr, ⊎_elim, ℕ, zero, suc, ◌+◌, ◌<◌, ◌≤◌, List}
-use Rattle.std.proofs.Common.{[], ◌∷◌, ◌++◌, map, Option, None, Some, Bool, true, false, cond, refl}
+use Rattle.std.proofs.Common.{◌≡◌, ◌⊎◌, inl, inr, ⊎_elim, ℕ, ◌+◌, ◌<◌, ◌≤◌, List}
+use Rattle.std.proofs.Common.{[], ◌∷◌, ◌++◌, map, Option, None, Some, true, false, cond, refl}
 use Rattle.std.proofs.Common.{sym, ap, ◌∙◌, subst, arith}
 use Rattle.std.specs.Prelude.{nat_eq, MatchOption, ⊤, ◌&&◌, IsSome}
-use Rattle.std.specs.List.{AllByRecursion, filter, filter_map, flat_map, cons_option}
-use Rattle.std.proofs.lemmas.Bool.Decides.{nat_tests}
-use Rattle.std.proofs.lemmas.List.Elements.{filter_map-append}
+use Rattle.std.specs.List.{AllByRecursion, filter, flat_map, cons_option}
 use Rattle.std.proofs.Math.Nat.{mod-lt}
 use Rattle.kv_base.specs.Partition.{owner_of, hash_of}
 use Rattle.kv_model.specs.Pairwise.{Pairwise}
 use Rattle.kv_model.specs.Layout.{Layout}
 use Rattle.kv_model.specs.Pairs.{Pair, stamps, key_of, stamp_of, pairs_in}
 use Rattle.kv_model.specs.Order.{IsAfter, Rises, RisesForKey}
-use Rattle.kv_parties.specs.Rows.{sum_below, row}
+use Rattle.kv_parties.specs.Rows.{sum_below}
 use Rattle.kv_parties.specs.Setting.{owns}
 use Rattle.kv_parties.specs.Groups.{Asked, Answers}
 use Rattle.kv_parties.specs.Sessions.{Handled, IsHandled, Exchange, exchange_pairs, goes_to}
 use Rattle.kv_parties.specs.Sessions.{part_of}
 use Rattle.kv_parties.specs.Sessions.{asked_by, all_asked}
-use Rattle.kv_parties.proofs.Lists.{In, eq_self, count, In-left, In-right, In-append, All-In, In-All}
+use Rattle.kv_parties.proofs.Lists.{In, eq_self, In-left, In-right, In-append, All-In, In-All}
 use Rattle.kv_parties.proofs.Lists.{In-filter, In-filter-back, In-map, In-map-back}
 use Rattle.kv_parties.proofs.Lists.{In-filter_map-back, sum_below-same, sum_below-add, at_least}
 use Rattle.kv_parties.proofs.Owned.{IsHere, stampless}
@@ -103,7 +101,8 @@ module _ (layout : Layout) (n : ℕ) (some : 1 ≤ n) where
       (elim h.routed as (λ b. h.routed ≡ b → b ≡ true) [
         | true ↦ λ r. refl
         | false ↦ λ r.
-            let none : None ≡ Some t = sym (stampless layout h.pair (here h is r)) ∙ e in absurd (cc)
+            let none : None ≡ Some t = sym (stampless layout h.pair (here h is r)) ∙ e in
+            absurd (cc)
       ]) refl
 
   in_part : (h : Handled) (w : ℕ) (handled : List Handled) → goes_to n w h ≡ true → In h handled
@@ -222,7 +221,8 @@ module _ (layout : Layout) (n : ℕ) (some : 1 ≤ n) where
           weigh-append f (exchange_pairs r) (pairs_in (map exchange_pairs exchanges)),
           weigh-parts r.handled is.0,
           weigh-exchanges exchanges is.1,
-          sum_below-same n (λ w. weigh f (pairs_in (answered_by (part_of n w r.handled) ++ later w)))
+          sum_below-same n
+              (λ w. weigh f (pairs_in (answered_by (part_of n w r.handled) ++ later w)))
               (λ w. weigh f (part_of n w r.handled) + weigh f (pairs_in (later w)))
               (λ w lt. part w),
           sum_below-add n (λ w. weigh f (part_of n w r.handled))

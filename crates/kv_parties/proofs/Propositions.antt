@@ -6,7 +6,7 @@ use mathlib.Core.HLevel.{collapsible→set}
 use Rattle.std.specs.List.{AllByRecursion, AllByRecursion-prop}
 use Rattle.std.proofs.Props.{props}
 use Rattle.kv_base.specs.declared.request.Request.{Request}
-use Rattle.kv_base.specs.declared.request.Request.TheVariants.{Put, Get, Delete, Flush}
+use Rattle.kv_base.specs.declared.request.Request.TheVariants.{Put, Get, Delete}
 use Rattle.kv_base.specs.declared.reply.Reply.{Reply}
 use Rattle.kv_base.specs.declared.reply.Reply.TheVariants.{Stored, Found, Missing, Removed, Absent}
 use Rattle.kv_base.specs.declared.reply.Reply.TheVariants.{BadKey, TooLarge, Full, NoMemory}
@@ -16,7 +16,7 @@ use Rattle.kv_model.specs.History.{Write, value_at}
 use Rattle.kv_model.specs.Items.{SameValue}
 use Rattle.kv_model.specs.Pairwise.{Pairwise}
 use Rattle.kv_model.specs.Layout.{Layout}
-use Rattle.kv_model.specs.Pairs.{Pair, writes, stamps, stamp_of, key_of}
+use Rattle.kv_model.specs.Pairs.{Pair, writes, stamps, stamp_of}
 use Rattle.kv_model.specs.Agreement.{AgreesWithMap, IsAnswer, IsMapAnswer, IsRead, refusal_of}
 use Rattle.kv_model.specs.Order.{RespectsOrder, IsAfter, Rises, RisesForKey}
 use Rattle.kv_stamps.specs.declared.view.Range.{Range}
@@ -24,7 +24,7 @@ use Rattle.kv_disk.specs.declared.disk.Disk as disks
 use Rattle.kv_parties.specs.Setting.{Setting, owned_pairs, owned_writes}
 use Rattle.kv_parties.specs.Causes.{HasCauses, IsSpentAt, IsFullAt, any_unsure, all_writes}
 use Rattle.kv_parties.specs.Recovered.{LeavesPrefixes}
-use Rattle.kv_parties.specs.Joined.{Parties, Stands}
+use Rattle.kv_parties.specs.Joined.{Parties, Stands, IsTold}
 
 -- a reply as its kind, a number and a value
 abbrev code : Reply → ℕ × (ℕ × List ℕ)
@@ -174,6 +174,19 @@ same_value-prop told None (Some b) = hlevel props
 same_value-prop told (Some a) None = hlevel props
 same_value-prop told (Some a) (Some b) = hlevel props
 
+told-prop : (setting : Setting) (pairs told : List Pair)
+    → IsProp (AllByRecursion (IsTold setting pairs) told)
+told-prop setting pairs told =
+    AllByRecursion-prop (IsTold setting pairs) (λ p. hlevel props) told
+
 pub stands-prop : {F D : Type 0} (d : disks.Ghosts D) (setting : Setting) (parties : Parties F D)
     (pairs : List Pair) → IsProp (Stands d setting parties pairs)
-stands-prop d setting parties pairs = hlevel (props, agrees-prop, order-prop, causes-prop, same_value-prop, leaves-prop)
+stands-prop d setting parties pairs = hlevel (
+  props,
+  agrees-prop,
+  order-prop,
+  told-prop,
+  causes-prop,
+  same_value-prop,
+  leaves-prop,
+)

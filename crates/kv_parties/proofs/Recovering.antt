@@ -1,10 +1,9 @@
 -- Recovery of a worker's disk, by the writes of all parties.
-use Rattle.std.proofs.Common.{◌≡◌, ◌⊎◌, inl, inr, ⊎_elim, ℕ, ◌<◌, ◌≤◌, List, [], ◌∷◌, ◌++◌, Option}
-use Rattle.std.proofs.Common.{None, Some, Bool, true, false, refl, sym, ap, ◌∙◌, subst, arith}
+use Rattle.std.proofs.Common.{◌≡◌, ◌⊎◌, inl, inr, ⊎_elim, ℕ, ◌<◌, ◌≤◌, List, ◌++◌}
+use Rattle.std.proofs.Common.{Some, refl, sym, ap, ◌∙◌, subst, arith}
 use Rattle.std.proofs.Common.{append_assoc}
 use Rattle.std.proofs.Math.Logic.{∥∥₁_map}
 use Rattle.std.specs.Prelude.{option_and_then}
-use Rattle.std.specs.List.{AllByRecursion}
 use Rattle.kv_base.specs.Image.{Image}
 use Rattle.kv_base.specs.Partition.{owner_of}
 use Rattle.kv_base.specs.declared.request.Request.{Request}
@@ -16,7 +15,6 @@ use Rattle.kv_model.specs.Pairs.{Pair, writes, unsure_writes, key_of, stamp_of, 
 use Rattle.kv_model.specs.Pairs.{acknowledged_by, unsure_by}
 use Rattle.kv_model.specs.Reading.{slot_at}
 use Rattle.kv_model.specs.Recovery.{RecoversPrefix, HoldsAll, GivesValue}
-use Rattle.kv_parties.specs.Rows.{row}
 use Rattle.kv_parties.specs.Setting.{Setting, IsOwned}
 use Rattle.kv_parties.specs.Begun.{IsBefore, all_before}
 use Rattle.kv_parties.specs.Causes.{all_writes}
@@ -58,15 +56,16 @@ of-one pair v u (inr e) (inr f) = from_some v u (sym e ∙ f)
 abbrev pub left_by : List Pair → List Write
 left_by pairs = writes pairs ++ unsure_writes pairs
 
-pub left-In : (x : Write) (p : Pair) (pairs : List Pair) → IsOf p x → In p pairs → In x (left_by pairs)
+pub left-In : (x : Write) (p : Pair) (pairs : List Pair) → IsOf p x → In p pairs
+    → In x (left_by pairs)
 left-In x p pairs (inl e) i =
     In-left x (writes pairs) (unsure_writes pairs) (In-filter_map acknowledged p x pairs e i)
 left-In x p pairs (inr e) i =
     In-right x (writes pairs) (unsure_writes pairs)
     (In-filter_map (λ (q : Pair). unsure_by q.request q.reply) p x pairs e i)
 
-pub In-left_by : (x : Write) (pairs : List Pair) → In x (left_by pairs) → (p : Pair) × IsOf p x × In p
-    pairs
+pub In-left_by : (x : Write) (pairs : List Pair) → In x (left_by pairs)
+    → (p : Pair) × IsOf p x × In p pairs
 In-left_by x pairs i = ⊎_elim
     (λ (a : In x (writes pairs)).
     let m = In-filter_map-back acknowledged x pairs a in (m.0, inl m.1, m.2))
@@ -184,8 +183,8 @@ module _ (setting : Setting) (before : ℕ → List Write) (base : IsBefore sett
 
   recovers-so : (w : ℕ) (image : Image) (mine all : List Pair) → w < setting.workers
       → AreOwnAlso w mine all
-      → RecoversPrefix setting.layout (all_writes (before w) (own w)) (before w ++ writes mine) image
-      w setting.workers
+      → RecoversPrefix setting.layout (all_writes (before w) (own w))
+      (before w ++ writes mine) image w setting.workers
       → RecoversPrefix setting.layout (all_writes (all_before setting before) pairs)
       (all_before setting before ++ writes all) image w setting.workers
   recovers-so w image mine all lt also of_own = record {

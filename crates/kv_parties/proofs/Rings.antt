@@ -2,9 +2,7 @@
 use Rattle.std.specs.Prelude.{◌≡◌, ◌≤◌, ◌<◌, ℕ, List, Bool, false}
 use mathlib.Core.List.{IsPrefix}
 use Rattle.kv_base.specs.declared.request.Request.{Request}
-use Rattle.kv_model.specs.Agreement.{AgreesWithMap}
 use Rattle.kv_model.specs.History.{Write}
-use Rattle.kv_model.specs.Order.{RespectsOrder}
 use Rattle.kv_model.specs.Pairs.{Pair, pairs_in}
 use Rattle.kv_stamps.specs.Ranges.{among}
 use Rattle.kv_stamps.specs.declared.view.Range.{Range}
@@ -14,8 +12,8 @@ use Rattle.kv_parties.specs.Sessions.{AsksGroups}
 use Rattle.kv_parties.specs.Setting.{Setting}
 use Rattle.kv_parties.specs.Workers.{AnswersGroups}
 
--- what each session asked of each worker, what that worker took of it and answered, and what of this
--- the session heard
+-- what each session asked of each worker, what that worker took of it and answered, and what of
+-- this the session heard
 pub record Rings : Type 0 where
   pub asked : ℕ → ℕ → List Asked
   pub taken : ℕ → ℕ → List Asked

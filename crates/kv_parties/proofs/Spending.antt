@@ -1,12 +1,12 @@
 -- A worker meets no stamps left only where all numbers were given.
-use Rattle.std.proofs.Common.{◌≡◌, ◌⊎◌, inl, inr, ⊎_elim, ℕ, zero, suc, ◌+◌, ◌-◌, ◌^◌, ◌<◌, ◌≤◌, List}
-use Rattle.std.proofs.Common.{[], ◌∷◌, ◌++◌, length, map, Option, None, Some, Bool, true, false, cond}
+use Rattle.std.proofs.Common.{◌≡◌, ◌⊎◌, inl, inr, ⊎_elim, ℕ, zero, suc, ◌+◌, ◌-◌, ◌^◌, ◌<◌, ◌≤◌}
+use Rattle.std.proofs.Common.{List}
+use Rattle.std.proofs.Common.{[], ◌∷◌, ◌++◌, length, map, None, Some, Bool, true, false}
 use Rattle.std.proofs.Common.{refl, sym, ap, ◌∙◌, subst, arith, Contains}
 use Rattle.std.proofs.lemmas.Bool.Decides.{nat_tests}
-use Rattle.std.proofs.lemmas.List.Elements.{All-head, All-tail}
+use Rattle.std.proofs.lemmas.List.Elements.{All-head}
 use Rattle.std.proofs.lemmas.List.Sums.{sum_by-cons}
-use Rattle.std.specs.Prelude.{nat_lt, min, max, All}
-use Rattle.std.specs.List.{AllByRecursion, flat_map}
+use Rattle.std.specs.Prelude.{min, max, All}
 use Rattle.kv_base.specs.declared.request.Request.{Request}
 use Rattle.kv_base.specs.declared.reply.Reply.{Reply}
 use Rattle.kv_disk.specs.declared.disk.Disk as disks
@@ -18,7 +18,8 @@ use Rattle.kv_stamps.specs.declared.view.Range.{Range}
 use Rattle.kv_stamps.specs.declared.view.View.{View}
 use Rattle.kv_parties.specs.Begun.{IsBefore}
 use Rattle.kv_parties.specs.Groups.{Asked}
-use Rattle.kv_parties.specs.Joined.{Parties, AllKeep, NonePassed, CountsAll, all_answered}
+use Rattle.kv_parties.specs.Joined.{Parties, AllKeep, NonePassed, all_answered}
+use Rattle.kv_parties.specs.Laws.{CountsAll}
 use Rattle.kv_parties.specs.Messages.{groups_in}
 use Rattle.kv_parties.specs.Rows.{sum_below}
 use Rattle.kv_parties.specs.Sessions.{Exchange, exchange_pairs, part_of, asked_by, all_asked}
@@ -26,9 +27,9 @@ use Rattle.kv_parties.specs.Sessions.{greatest, seen_behind, HaveSeen, AsksGroup
 use Rattle.kv_parties.specs.Sessions.{message_of, asked_of}
 use Rattle.kv_parties.specs.Setting.{Setting}
 use Rattle.kv_parties.specs.Stamps.{size_of, IsForGroup, IsMet}
-use Rattle.kv_parties.proofs.Agreeing.{weigh, weigh-stamps, hits, hits-one, stamp-In, Owns}
+use Rattle.kv_parties.proofs.Agreeing.{weigh, stamp-In}
 use Rattle.kv_parties.proofs.Causing.{Contains-In}
-use Rattle.kv_parties.proofs.Joining.{own, owns, session_fits, all_many, of_own}
+use Rattle.kv_parties.proofs.Joining.{session_fits, all_many, of_own}
 use Rattle.kv_parties.proofs.Histories.{from_some}
 use Rattle.kv_parties.proofs.Lists.{In, count, In-left, In-right, In-append, In-flat_map-back}
 use Rattle.kv_parties.proofs.Lists.{In-filter_map-back, count-In, sum_below-le, sum_below-same}
@@ -297,7 +298,8 @@ module _ {F D : Type 0} (d : disks.Ghosts D) (setting : Setting) (parties : Part
   no_gaps : (w : ℕ) → w < setting.workers → (view w).gaps ≡ []
   no_gaps w less =
       (elim (view w).gaps as (λ gaps. (view w).gaps ≡ gaps
-      → All (IsForGroup setting (λ s. groups_in ((keep.workers w less).taken s))) gaps → gaps ≡ []) [
+      → All (IsForGroup setting (λ s. groups_in ((keep.workers w less).taken s))) gaps
+      → gaps ≡ []) [
         | [] ↦ λ e all. refl
         | gap ∷ gaps ↦ λ e all.
             let is = All-head (IsForGroup setting

@@ -1,5 +1,6 @@
 -- What stands where all parties keep their promises.
 use Rattle.std.proofs.Common.{◌≡◌, ℕ, ◌<◌, List, [], ◌++◌, sym, ◌∙◌, subst}
+use Rattle.std.proofs.Common.{inl, inr, ⊎_elim}
 use Rattle.std.proofs.Props.{props}
 use Rattle.kv_base.specs.Image.{Image}
 use Rattle.kv_disk.specs.declared.disk.Disk as disks
@@ -9,13 +10,16 @@ use Rattle.kv_parties.specs.Begun.{IsBefore, all_before}
 use Rattle.kv_parties.specs.Causes.{KeepsCauses}
 use Rattle.kv_parties.specs.Promises.{KeepsMap}
 use Rattle.kv_parties.specs.Joined.{Parties, AllKeep, NonePassed, NoneWaits, Stands}
-use Rattle.kv_parties.specs.Joined.{all_answered, all_pairs}
+use Rattle.kv_parties.specs.Joined.{all_answered, all_pairs, IsTold}
 use Rattle.kv_parties.specs.Recovered.{Recovers, LeavesPrefixes}
 use Rattle.kv_parties.specs.Setting.{Setting}
 use Rattle.kv_parties.specs.Workers.{done_pairs}
 use Rattle.kv_parties.proofs.Agreeing.{Owns, Fits, agrees, value-same}
-use Rattle.kv_parties.proofs.Causing.{causes_of}
+use Rattle.kv_parties.proofs.Causing.{causes_of, In-Contains}
+use Rattle.kv_parties.proofs.Lists.{In, In-All}
+use Rattle.kv_parties.proofs.Owned.{IsHere}
 use Rattle.kv_parties.proofs.Joining.{own, of_own, owns, all_fit, ordered_groups, sessions_fit}
+use Rattle.kv_parties.proofs.Joining.{session_fits}
 use Rattle.kv_parties.proofs.Meeting.{rings_of, courses_of, ranges_of, rings_keep, all_quiet}
 use Rattle.kv_parties.proofs.Meeting.{same_history}
 use Rattle.kv_parties.proofs.Recovering.{AreOwnAlso, all_own_also, recovers}
@@ -65,6 +69,12 @@ module _ {F D : Type 0} (d : disks.Ghosts D) (setting : Setting) (parties : Part
     right = agrees setting parties.before base mine (ranges_of parties) owned pairs fits;
     ordered = ordered_groups setting parties.before (rings_of parties) (ranges_of parties)
         (courses_of parties) (rings_keep d setting parties keep passed) base;
+    told = λ s lt. In-All (IsTold setting pairs) (pairs_in (parties.groups s)) (λ p i. ⊎_elim
+        (λ (a : (w : ℕ) × (w < setting.workers) × In p (mine w)).
+        ∣ inl (In-Contains p pairs (fits.all a.0 p a.1 a.2)) ∣₁)
+        (λ (b : IsHere setting.layout p). ∣ inr b.own ∣₁)
+        (session_fits setting parties.before (rings_of parties) (ranges_of parties)
+        (courses_of parties) (rings_keep d setting parties keep passed) base s lt p i));
     causes = λ w lt. causes_of setting parties.before base mine (ranges_of parties) owned pairs fits
         w (parties.workers w).view.spent (d.faults (parties.workers w).first)
         (d.faults (parties.workers w).now) (parties.workers w).closed (keeps w lt).batches lt
@@ -105,7 +115,8 @@ module _ {F D : Type 0} (d : disks.Ghosts D) (setting : Setting) (parties : Part
       → Stands d setting parties (all_pairs setting parties)
   sessions_stand quiet = stands_of (all_pairs setting parties) (sessions_fit setting parties.before
       (rings_of parties) (ranges_of parties) (courses_of parties)
-      (rings_keep d setting parties keep passed) base (all_quiet d setting parties keep passed quiet))
+      (rings_keep d setting parties keep passed) base
+      (all_quiet d setting parties keep passed quiet))
 
 -- recovery of what was answered earlier
 pub recovery : {F D : Type 0} (d : disks.Ghosts D) (setting : Setting)

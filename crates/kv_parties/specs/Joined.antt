@@ -1,8 +1,9 @@
 -- What the promises of all parties say together.
-use Rattle.std.specs.Prelude.{◌≡◌, ◌≤◌, ◌<◌, ◌+◌, ◌^◌, ℕ, List, [], ◌∷◌, ◌++◌, length, Some}
-use Rattle.std.specs.Prelude.{Bool, true, false}
+use Rattle.std.specs.Prelude.{◌≡◌, ◌≤◌, ◌<◌, ◌+◌, ℕ, List, ◌++◌, length, ◌⊎◌}
+use Rattle.std.specs.Prelude.{Contains}
+use Rattle.std.specs.Prelude.{Bool, false}
+use Rattle.std.specs.List.{AllByRecursion}
 use mathlib.Core.List.{IsPrefix}
-use Rattle.kv_base.specs.Image.{Image}
 use Rattle.kv_base.specs.Partition.{owner_of}
 use Rattle.kv_base.specs.declared.request.Request.{Request}
 use Rattle.kv_disk.specs.declared.disk.Disk as disks
@@ -13,21 +14,19 @@ use Rattle.kv_model.specs.Order.{RespectsOrder}
 use Rattle.kv_model.specs.Pairs.{Pair, pairs_in, writes}
 use Rattle.kv_ring.specs.declared.message.Ask.{Ask}
 use Rattle.kv_ring.specs.declared.message.Answer.{Answer}
-use Rattle.kv_stamps.specs.Ranges.{among, between}
-use Rattle.kv_stamps.specs.Rule.{times_in}
-use Rattle.kv_stamps.specs.Seats.{first_spent}
-use Rattle.kv_parties.specs.Begun.{IsBefore, all_before}
-use Rattle.kv_parties.specs.Causes.{HasCauses}
-use Rattle.kv_parties.specs.Messages.{all_asking, answered_in, takes_message}
+use Rattle.kv_stamps.specs.Ranges.{among}
+use Rattle.kv_parties.specs.Begun.{all_before}
+use Rattle.kv_parties.specs.Causes.{HasCauses, IsOwn}
+use Rattle.kv_parties.specs.Messages.{all_asking, answered_in}
 use Rattle.kv_parties.specs.Promises.{WorkerData, WorkerPromise, SessionPromise}
-use Rattle.kv_parties.specs.Recovered.{Recovers, LeavesPrefixes}
+use Rattle.kv_parties.specs.Recovered.{LeavesPrefixes}
 use Rattle.kv_parties.specs.Rows.{sum_below, row}
 use Rattle.kv_parties.specs.Setting.{Setting}
-use Rattle.kv_parties.specs.Workers.{done_pairs}
 
 -- what all parties have: the messages and answers that each sent to each and received, by session
--- and worker or by worker and session; each worker's earlier writes, and what it has beside its ring
--- ends; each session's answered groups, the requests of the one under way, and whether it waits
+-- and worker or by worker and session; each worker's earlier writes, and what it has beside its
+-- ring ends; each session's answered groups, the requests of the one under way, and whether it
+-- waits
 pub record Parties (F D : Type 0) : Type 0 where
   pub asks_sent : ℕ → ℕ → List (Ask F)
   pub asks_received : ℕ → ℕ → List (Ask F)
@@ -39,19 +38,23 @@ pub record Parties (F D : Type 0) : Type 0 where
   pub requests : ℕ → List Request
   pub waiting : ℕ → Bool
 
+-- the pair is one of these, or one that its session answered itself
+abbrev pub IsTold : Setting → List Pair → Pair → Type 0
+IsTold setting pairs pair = ∥ Contains pairs pair ⊎ IsOwn setting.layout pair ∥₁
+
 module _ {F D : Type 0} where
   -- all pairs that workers answered: by worker, then by session
   abbrev pub all_answered : Setting → Parties F D → List Pair
-  all_answered setting parties = row setting.workers (λ worker.
-      row setting.sessions (λ session. pairs_in (answered_in (parties.answers_sent worker session))))
+  all_answered setting parties = row setting.workers (λ worker. row setting.sessions (λ session.
+      pairs_in (answered_in (parties.answers_sent worker session))))
 
   -- all pairs that sessions answered
   abbrev pub all_pairs : Setting → Parties F D → List Pair
   all_pairs setting parties =
       row setting.sessions (λ session. pairs_in (parties.groups session))
 
-  -- all parties keep their promises, what was received begins what was sent, and no number is in two
-  -- ranges
+  -- all parties keep their promises, what was received begins what was sent, and no number is in
+  -- two ranges
   pub record AllKeep (d : disks.Ghosts D) (setting : Setting) (parties : Parties F D) : Type 0 where
     pub workers : (worker : ℕ) → worker < setting.workers → WorkerPromise d setting worker
         (parties.before worker) (parties.asks_received worker) (parties.answers_sent worker)
@@ -77,15 +80,18 @@ module _ {F D : Type 0} where
   NoneWaits setting parties = (session : ℕ) → session < setting.sessions
       → parties.waiting session ≡ false
 
-  -- the pairs are those of one plain map that began with what all disks kept, each session's stamps
-  -- are in its order, each refusal has its cause, each open worker's store has its part of the map,
-  -- and each disk recovers a prefix of the writes
+  -- the pairs are those of one plain map that began with what all disks kept; each session's stamps
+  -- are in its order, and what it answered is one of the pairs or its own refusal; each refusal has
+  -- its cause, each open worker's store has its part of the map, and each disk recovers a prefix of
+  -- the writes
   pub record Stands (d : disks.Ghosts D) (setting : Setting) (parties : Parties F D)
       (pairs : List Pair) : Type 0 where
     pub right : AgreesWithMap setting.told setting.layout (all_before setting parties.before)
         setting.floor pairs
     pub ordered : (session : ℕ) → session < setting.sessions
         → RespectsOrder (parties.groups session)
+    pub told : (session : ℕ) → session < setting.sessions
+        → AllByRecursion (IsTold setting pairs) (pairs_in (parties.groups session))
     pub causes : (worker : ℕ) → worker < setting.workers → HasCauses setting worker
         (all_before setting parties.before) (parties.workers worker).view.spent
         (d.faults (parties.workers worker).first) (d.faults (parties.workers worker).now)
@@ -98,64 +104,3 @@ module _ {F D : Type 0} where
     pub leaves : (worker : ℕ) → worker < setting.workers → LeavesPrefixes d setting worker
         (parties.workers worker).first (parties.workers worker).now
         (all_before setting parties.before) pairs
-
--- where all parties keep their promises and no message was passed over, this stands of all pairs that
--- workers answered, and where no session waits, of those that the sessions answered
-abbrev pub PromisesJoin : (F D : Type 0) → disks.Ghosts D → Type 0
-PromisesJoin F D d = (setting : Setting) (parties : Parties F D)
-    → IsBefore setting parties.before → AllKeep d setting parties → NonePassed setting parties
-    → Stands d setting parties (all_answered setting parties)
-    × (NoneWaits setting parties → Stands d setting parties (all_pairs setting parties))
-
--- where no session waits any more, no message was passed over
-abbrev pub PromisesEnd : (F D : Type 0) → disks.Ghosts D → Type 0
-PromisesEnd F D d = (setting : Setting) (parties : Parties F D)
-    → AllKeep d setting parties → NoneWaits setting parties → NonePassed setting parties
-
--- where all parties keep their promises and no message was passed over, and one more comes that has
--- an answer, no answer to its session waits to be sent, and the worker takes the message
-abbrev pub OwesNone : (F D : Type 0) → disks.Ghosts D → Type 0
-OwesNone F D d = (setting : Setting) (parties : Parties F D) (session worker : ℕ) (message : Ask F)
-    (pushed waiting : List (Answer F)) → AllKeep d setting parties → NonePassed setting parties
-    → session < setting.sessions → worker < setting.workers
-    → IsPrefix (parties.asks_received worker session ++ message ∷ [])
-    (parties.asks_sent session worker)
-    → all_asking (message ∷ []) ≡ message ∷ []
-    → parties.answers_sent worker session ≡ pushed ++ waiting
-    → IsPrefix (parties.answers_received session worker) pushed
-    → (waiting ≡ []) × (takes_message setting.layout worker setting.workers message ≡ true)
-
--- an image that recovers a prefix of what its worker has answered, and holds what it had answered
--- earlier, does so of what all workers have
-abbrev pub RecoveryJoins : (F D : Type 0) → disks.Ghosts D → Type 0
-RecoveryJoins F D d = (setting : Setting) (earlier parties : Parties F D)
-    → earlier.before ≡ parties.before → IsBefore setting parties.before
-    → (kept : AllKeep d setting earlier) → NonePassed setting earlier
-    → (keep : AllKeep d setting parties) → NonePassed setting parties
-    → (worker : ℕ) (image : Image) → worker < setting.workers
-    → ((lt : worker < setting.workers) → Recovers setting worker image (parties.before worker)
-    (done_pairs (kept.workers worker lt).groups.history)
-    (done_pairs (keep.workers worker lt).groups.history))
-    → Recovers setting worker image (all_before setting parties.before)
-    (all_answered setting earlier) (all_answered setting parties)
-
--- each number from the first stamp up to the counter's next one is just once in a range, a gap or a
--- run of a worker's seat, and no other number is
-abbrev pub CountsAll : {F D : Type 0} → Setting → Parties F D → ℕ → Type 0
-CountsAll setting parties next = (number : ℕ)
-    → sum_below setting.workers (λ worker. times_in number (parties.workers worker).view)
-    ≡ between number (setting.floor + 1) next
-
--- where all numbers that the counter gave are the workers', one met no stamps left only where the
--- floor and the number of answered requests pass the last stamp
-abbrev pub SpentHasCause : (F D : Type 0) → disks.Ghosts D → Type 0
-SpentHasCause F D d = (setting : Setting) (parties : Parties F D) (next : ℕ)
-    → IsBefore setting parties.before → AllKeep d setting parties → NonePassed setting parties
-    → CountsAll setting parties next → (worker number : ℕ) → worker < setting.workers
-    → first_spent (parties.workers worker).view.spent ≡ Some number
-    → (2 ^ 62 ≤ setting.floor + length (all_answered setting parties)) × (2 ^ 62 < number + 512)
-
--- what stands is one fact, however it is shown
-abbrev pub StandsOnce : (F D : Type 0) → disks.Ghosts D → Type 0
-StandsOnce F D d = (setting : Setting) (parties : Parties F D) (pairs : List Pair)
-    → IsProp (Stands d setting parties pairs)

@@ -10,3 +10,4 @@ pub mod Messages
 pub mod Recovered
 pub mod Promises
 pub mod Joined
+pub mod Laws

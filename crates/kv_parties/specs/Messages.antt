@@ -91,8 +91,8 @@ module _ {F : Type 0} where
   abbrev pub answered_in : List (Answer F) → List (List Pair)
   answered_in answers = flat_map answered_of answers
 
-  -- a worker, of so many, takes the message, unless an answer to its session waits to be sent: it is
-  -- a group of tasks that the worker takes, and what its session had seen is a stamp
+  -- a worker, of so many, takes the message, unless an answer to its session waits to be sent: it
+  -- is a group of tasks that the worker takes, and what its session had seen is below 2 ^ 62
   abbrev pub takes_message : Layout → ℕ → ℕ → Ask F → Bool
   takes_message layout worker workers (ask.Group seen tasks) = nat_lt seen (2 ^ 62)
       && takes_all layout worker workers tasks.items
@@ -115,8 +115,8 @@ module _ {F : Type 0} where
       (length replied.items ≡ length tasks.items) × AllByRecursion IsReplied replied.items
   IsAnswerTo message reply = ⊥
 
-  -- a session heard these of the answers that came to its messages, and passed over none that is one
-  -- to the message to which an answer was owed
+  -- a session heard these of the answers that came to its messages, and passed over none that is
+  -- one to the message to which an answer was owed
   abbrev pub Hears : List (Ask F) → List (Answer F) → List (Answer F) → Type 0
   Hears messages [] heard = heard ≡ []
   Hears [] (next ∷ came) heard = ⊥

@@ -1,5 +1,5 @@
--- What each party promises of its own data alone: a worker of its ring ends, its seat of the counter
--- and its disk, a session of its ring ends and the groups that it answered.
+-- What each party promises of its own data alone: a worker of its ring ends, its seat of the
+-- counter, its store and its disk, a session of its ring ends and the groups that it answered.
 use Rattle.std.specs.Prelude.{◌≡◌, ◌≤◌, ◌<◌, ◌+◌, ℕ, List, ◌++◌, length, Bool, false, true}
 use Rattle.std.specs.List.{AllByRecursion}
 use Rattle.kv_base.specs.declared.request.Request.{Request}
@@ -21,8 +21,8 @@ use Rattle.kv_parties.specs.Setting.{Setting}
 use Rattle.kv_parties.specs.Stamps.{KeepsStamps}
 use Rattle.kv_parties.specs.Workers.{AnswersGroups, done_pairs}
 
--- what a worker has beside its ring ends: what its seat knows of the counter, its disk as it was and
--- as it is, whether it is closed, and what a batch would find at its store
+-- what a worker has beside its ring ends: what its seat knows of the counter, its disk as it was
+-- and as it is, whether it is closed, and what a batch would find at its store
 pub record WorkerData (D : Type 0) : Type 0 where
   pub view : View
   pub first : D

@@ -1,5 +1,5 @@
 -- What recovery of one worker's disk gives of the writes of all parties.
-use Rattle.std.specs.Prelude.{◌<◌, ◌≤◌, ℕ, List, [], ◌++◌}
+use Rattle.std.specs.Prelude.{◌≤◌, ℕ, List, [], ◌++◌}
 use Rattle.kv_base.specs.Crash.{MayLeave}
 use Rattle.kv_base.specs.Image.{Image}
 use Rattle.kv_disk.specs.declared.disk.Disk as disks
@@ -15,8 +15,8 @@ abbrev pub Recovers : Setting → ℕ → Image → List Write → List Pair →
 Recovers setting worker image before acknowledged pairs = ∥ RecoversPrefix setting.layout
     (all_writes before pairs) (before ++ writes acknowledged) image worker setting.workers ∥₁
 
--- at each moment from the disk as it was to the disk as it is a crash leaves a prefix that holds all
--- earlier writes, and at the last one all acknowledged ones too
+-- at each moment from the disk as it was to the disk as it is a crash leaves a prefix that holds
+-- all earlier writes, and at the last one all acknowledged ones too
 pub record LeavesPrefixes {D : Type 0} (d : disks.Ghosts D) (setting : Setting) (worker : ℕ)
     (first now : D) (before : List Write) (pairs : List Pair) : Type 0 where
   pub later : d.calls first ≤ d.calls now

@@ -1,12 +1,22 @@
 ghost use Rattle.kv_parties.specs.Begun.{KeptItemsBegin};
-ghost use Rattle.kv_parties.specs.Joined.{PromisesJoin, PromisesEnd, OwesNone, RecoveryJoins};
-ghost use Rattle.kv_parties.specs.Joined.{SpentHasCause, StandsOnce};
+ghost use Rattle.kv_parties.specs.Laws.{PromisesJoin, PromisesEnd, OwesNone, RecoveryJoins};
+ghost use Rattle.kv_parties.specs.Laws.{SpentHasCause, StandsOnce, WorkerBegins, SessionBegins};
 
 use kv_disk::Disk;
 
 /// The items that the disks of all workers keep are a history, each of a key that its worker owns.
 pub fn kept_items_begin()
     ensures { KeptItemsBegin }
+{}
+
+/// A worker that has done nothing so far keeps its promise.
+pub fn worker_begins<F, D: Disk>()
+    ensures { WorkerBegins F D ⟦<D as Disk>⟧ }
+{}
+
+/// So does a session.
+pub fn session_begins<F>()
+    ensures { SessionBegins F }
 {}
 
 /// Where all parties keep their promises and no message was passed over, all answered pairs are

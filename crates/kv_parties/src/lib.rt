@@ -3,5 +3,7 @@
 
 mod laws;
 
-pub use laws::{kept_items_begin, owes_none, promises_end, promises_join, recovery_joins};
-pub use laws::{spent_has_cause, stands_once};
+pub use laws::{
+    kept_items_begin, owes_none, promises_end, promises_join, recovery_joins, session_begins,
+    spent_has_cause, stands_once, worker_begins,
+};

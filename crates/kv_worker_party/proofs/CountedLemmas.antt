@@ -5,7 +5,7 @@ use Rattle.std.proofs.Common.{refl, sym, ap, subst, ◌∙◌, arith, append-nil
 use Rattle.std.specs.Prelude.{nat_lt, sum_by}
 use Rattle.std.proofs.lemmas.Bool.Decides.{nat_tests}
 use Rattle.std.proofs.lemmas.List.Elements.{All-append, Contains-append_left, Contains-append_right}
-use Rattle.std.proofs.lemmas.List.Sums.{sum_by-append}
+use Rattle.std.proofs.lemmas.List.Sums.{sum_by_push}
 use Rattle.kv_base.specs.Reserved.{Reserved}
 use Rattle.kv_base.specs.declared.reply.Reply.{Reply}
 use Rattle.kv_base.specs.declared.request.Request.{Request}
@@ -42,9 +42,15 @@ pub record Counted (seen count : ℕ) (view later : View) : Type 0 where
 
 size-push : (ranges : List Range) (first count : ℕ)
     → size_of (ranges ++ range first count ∷ []) ≡ size_of ranges + count
-size-push ranges first count =
-    sum_by-append (λ (r : Range). r.count) ranges (range first count ∷ [])
-    ∙ (let e : size_of ranges + (count + 0) ≡ size_of ranges + count = omega arith in e)
+size-push ranges first count = sum_by_push (λ (r : Range). r.count) ranges (range first count)
+
+-- a list of one, or of none
+one-all : (P : Range → Type 0) (gap : Range) → P gap → All P (gap ∷ [])
+one-all P gap has zero d lt = has
+one-all P gap has (suc k) d lt = absurd (omega (arith, lt))
+
+none-all : (P : Range → Type 0) → All P []
+none-all P k d lt = absurd (omega (arith, lt))
 
 -- a gap that a raise leaves ends there
 gap-behind : (seen next : ℕ) → All (IsGapBehind seen) (gap_to (seen + 1) next)
@@ -54,13 +60,8 @@ gap-behind seen next = by (nat_lt next (seen + 1)) refl
         → All (IsGapBehind seen) (cond b (range next (seen + 1 - next) ∷ []) [])
     by true is =
         let lt : next < seen + 1 = grind (arith, nat_tests) in
-        one (omega arith, omega arith)
-      where
-        one : IsGapBehind seen (range next (seen + 1 - next))
-            → All (IsGapBehind seen) (range next (seen + 1 - next) ∷ [])
-        one has zero d lt = has
-        one has (suc k) d lt = absurd (omega (arith, lt))
-    by false is k d lt = absurd (omega (arith, lt))
+        one-all (IsGapBehind seen) (range next (seen + 1 - next)) (omega arith, omega arith)
+    by false is = none-all (IsGapBehind seen)
 
 raised-gaps : (to next : ℕ) (old new : View) → Raises to old next new
     → new.gaps ≡ old.gaps ++ gap_to to next
@@ -72,7 +73,7 @@ none-more seen count view = record {
   limits = λ all. all;
   more = [];
   gaps = sym (append-nil view.gaps);
-  each = λ k d lt. absurd (omega (arith, lt));
+  each = none-all (IsGapBehind seen);
   some = inl refl;
 }
 
@@ -105,10 +106,6 @@ met-counted seen count number view later some few h = by h.spends
     spent_is : size_of h.between.spent ≡ size_of view.spent
     spent_is = ap (λ (v : View). size_of v.spent) h.raises.view
 
-    run : IsMet (range number count) → All IsMet (range number count ∷ [])
-    run has zero d lt = has
-    run has (suc k) d lt = absurd (omega (arith, lt))
-
     by : ((first_spent h.between.spent ≡ Some number) × (later ≡ h.between))
         ⊎ ((h.between.spent ≡ []) × Spends count h.between number later)
         → Counted seen count view later
@@ -133,7 +130,7 @@ met-counted seen count number view later some few h = by h.spends
       limits = λ all. subst (All IsMet) (sym (ap (λ (v : View). v.spent) met.1.view))
           (All-append IsMet h.between.spent (range number count ∷ [])
           (subst (All IsMet) (sym (ap (λ (v : View). v.spent) h.raises.view)) all)
-          (run (some, (met.1.passes, few))));
+          (one-all IsMet (range number count) (some, (met.1.passes, few))));
       more = gap_to (seen + 1) h.found;
       gaps = ap (λ (v : View). v.gaps) met.1.view
           ∙ raised-gaps (seen + 1) h.found view h.between h.raises;
@@ -202,18 +199,22 @@ module _ {F : Type 0} where
   some-taken worker workers from [] each some = absurd (omega (arith, some))
   some-taken worker workers from (intake ∷ intakes) each some =
       by (taken_by worker workers intake) refl
+      (λ rest. some-taken worker workers (from + 1) intakes
+      (λ s lt. each (suc s) (omega (arith, lt))) rest)
     where
+      Later : Type 0
+      Later = (s : ℕ) × (s < length intakes) × ((group : ℕ × Reserved Task)
+          × (taken_by worker workers (intake_of intakes s) ≡ Some group))
+
       by : (o : Option (ℕ × Reserved Task)) → taken_by worker workers intake ≡ o
+          → (1 ≤ length (in_hand (from + 1) (map (λ (j : Intake F). j.tasks) intakes)) → Later)
           → (s : ℕ) × (s < suc (length intakes)) × ((group : ℕ × Reserved Task)
           × (taken_by worker workers (intake_of (intake ∷ intakes) s) ≡ Some group))
-      by (Some group) is = (0, omega arith, (group, is))
-      by None is =
+      by (Some group) is later = (0, omega arith, (group, is))
+      by None is later =
           let none : intake.tasks ≡ [] = each 0 (omega arith) ∙ ap asked_tasks is in
-          let rest : 1 ≤ length (in_hand (from + 1) (map (λ (j : Intake F). j.tasks) intakes)) =
-          subst (λ ts. 1 ≤ length (of_session from ts
-          ++ in_hand (from + 1) (map (λ (j : Intake F). j.tasks) intakes))) none some in
-          let found = some-taken worker workers (from + 1) intakes
-          (λ s lt. each (suc s) (omega (arith, lt))) rest in
+          let found = later (subst (λ ts. 1 ≤ length (of_session from ts
+          ++ in_hand (from + 1) (map (λ (j : Intake F). j.tasks) intakes))) none some) in
           (suc found.0, omega (arith, found.1), found.2)
 
   -- a group was taken whose session had seen the greatest

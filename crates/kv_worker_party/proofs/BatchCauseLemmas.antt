@@ -92,9 +92,10 @@ counted-one b old now one more = more ∙ ap (λ c. cond c (next_count old) old)
 none-some : {X : Type 0} (x : X) → None ≡ Some x → ⊥
 none-some x e = cc
 
-closed-differs : (reply : Reply) → is_unsure reply ≡ false → reply ≢ Closed
-    → IsClosedAt false (record { request = _; reply = reply })
-closed-differs reply sure ne = ne
+-- the reply is Closed at a closed store, and only there
+abbrev ClosedAt : Bool → Reply → Type 0
+ClosedAt false reply = reply ≢ Closed
+ClosedAt true reply = reply ≡ Closed
 
 spent-number : (m n : ℕ) → StampsSpent m ≡ StampsSpent n → m ≡ n
 spent-number m n e = cc
@@ -133,7 +134,7 @@ module _ {D I : Type 0} (laws : PartyLaws) (d : disks.Ghosts D) (i : indexes.Gho
   const-batch : (slots : ℕ) (old now : WorkerView D I) (view later : View)
       (requests : List Request) (replies : List Reply) (reply : Reply)
       → replies ≡ map (λ _. reply) requests → is_unsure reply ≡ false → full_of reply ≡ None
-      → IsClosedAt old.store.closed (record { request = _; reply = reply })
+      → ClosedAt old.store.closed reply
       → ((number : ℕ) → reply ≡ StampsSpent number → first_spent later.spent ≡ Some number)
       → (view.spent ≡ []) ⊎ (later.spent ≡ view.spent)
       → now.store.closed ≡ old.store.closed
@@ -159,7 +160,7 @@ module _ {D I : Type 0} (laws : PartyLaws) (d : disks.Ghosts D) (i : indexes.Gho
       group : List Pair
       group = pairs_of requests (map (λ _. reply) requests)
 
-      by_closed : (b : Bool) → IsClosedAt b (record { request = _; reply = reply })
+      by_closed : (b : Bool) → ClosedAt b reply
           → AllByRecursion (IsClosedAt b) group
       by_closed true e = const-all (λ r. r ≡ Closed) reply e requests
       by_closed false ne = const-all (λ r. r ≢ Closed) reply ne requests
@@ -280,7 +281,7 @@ module _ {D I : Type 0} (laws : PartyLaws) (d : disks.Ghosts D) (i : indexes.Gho
       refused_by s refused reply (inl why) is =
           const-batch slots old now view later requests replies NoMemory
           (is ∙ ap (λ (r : Reply). map (λ (q : Request). r) requests) why.0) refl refl
-          (subst (λ b. IsClosedAt b (record { request = _; reply = NoMemory })) (sym s.open_)
+          (subst (λ b. ClosedAt b NoMemory) (sym s.open_)
           (λ e. cc)) (λ number e. absurd (cc))
           (inr (drawn-spent seen (length requests) s.base view later s.drawn))
           (ap (λ v. v.closed) refused.kept)
@@ -291,7 +292,7 @@ module _ {D I : Type 0} (laws : PartyLaws) (d : disks.Ghosts D) (i : indexes.Gho
       refused_by s refused reply (inr why) is =
           const-batch slots old now view later requests replies DiskFault
           (is ∙ ap (λ (r : Reply). map (λ (q : Request). r) requests) why.0) refl refl
-          (subst (λ b. IsClosedAt b (record { request = _; reply = DiskFault })) (sym s.open_)
+          (subst (λ b. ClosedAt b DiskFault) (sym s.open_)
           (λ e. cc)) (λ number e. absurd (cc))
           (inr (drawn-spent seen (length requests) s.base view later s.drawn))
           (ap (λ v. v.closed) refused.kept)
@@ -338,7 +339,7 @@ module _ {D I : Type 0} (laws : PartyLaws) (d : disks.Ghosts D) (i : indexes.Gho
           (sym (ap (λ rs. pairs_of rs replies) idle.none)) (idle-batch slots old view)))
       by (inr (inl closed)) = const-batch slots old now view later requests replies Closed
           closed.replies_are refl refl
-          (subst (λ b. IsClosedAt b (record { request = _; reply = Closed })) (sym closed.closed)
+          (subst (λ b. ClosedAt b Closed) (sym closed.closed)
           refl) (λ number e. absurd (cc)) (inr (ap (λ (v : View). v.spent) closed.view_is))
           (ap (λ (w : WorkerView D I). w.store.closed) closed.worker)
           (counted-none (any_fault (pairs_of requests (map (λ _. Closed) requests)))
@@ -350,7 +351,7 @@ module _ {D I : Type 0} (laws : PartyLaws) (d : disks.Ghosts D) (i : indexes.Gho
           let met = met-first seen (length requests) spent.number view later spent.met in
           const-batch slots old now view later requests replies (StampsSpent spent.number)
           spent.replies_are refl refl
-          (subst (λ b. IsClosedAt b (record { request = _; reply = StampsSpent spent.number }))
+          (subst (λ b. ClosedAt b (StampsSpent spent.number))
           (sym spent.open_) (λ e. cc))
           (λ number e. met.0 ∙ ap (λ n. Some n) (spent-number spent.number number e)) met.1
           (ap (λ (w : WorkerView D I). w.store.closed) spent.worker)

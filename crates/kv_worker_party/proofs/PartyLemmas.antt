@@ -19,10 +19,10 @@ use Rattle.kv_parties.specs.Groups.{Answers}
 use Rattle.kv_parties.specs.Messages.{groups_in, answered_in, all_asking, IsPartOf, IsWhole}
 use Rattle.kv_parties.specs.Causes.{KeepsCauses, all_writes}
 use Rattle.kv_parties.specs.Workers.{done_pairs, done_for}
-use Rattle.kv_parties.specs.Stamps.{IsMet, size_of}
+use Rattle.kv_parties.specs.Stamps.{HasDrawnNone, IsMet, size_of}
 use Rattle.kv_stamps.specs.Ranges.{among}
 use Rattle.kv_worker_party.specs.Laws.{PartyLaws}
-use Rattle.kv_worker_party.specs.Party.{BeginsWith, Holds, IsUnused, LeavesEach, StoodAndGoesOn, answers_to, setting_of}
+use Rattle.kv_worker_party.specs.Party.{BeginsWith, Holds, LeavesEach, StoodAndGoesOn, answers_to, setting_of}
 use Rattle.kv_worker_party.proofs.StampedLemmas.{has-weaker}
 use Rattle.kv_worker_party.proofs.TurnLemmas.{holds-turn, leaves-prefixes}
 use Rattle.kv_base.specs.Reserved.{Reserved}
@@ -581,7 +581,7 @@ pub first-promise : {D I F : Type 0} (d : disks.Ghosts D) (i : indexes.Ghosts I)
     (worker : WorkerView D I) (ends : Ends (Answer F) (Ask F) 8) (connections : List (Connection F))
     (view : View) (before : List Write) → BeginsWith d i worker before (view.start - 1)
     → IsFresh ends → ((s : ℕ) → connection_of connections s ≡ new_connection)
-    → IsUnused view → (1 ≤ view.start) × (view.start ≤ view.seen)
+    → HasDrawnNone view → (1 ≤ view.start) × (view.start ≤ view.seen)
     → Holds d i view.start (peers ends) worker worker ends connections view false before
 first-promise {D = D} {I = I} {F = F} d i worker ends connections view before begins fresh idle none
     started =
@@ -681,7 +681,7 @@ pub first-holds : {D I F : Type 0} (d : disks.Ghosts D) (i : indexes.Ghosts I)
     (connections : List (Connection F)) (view : View) (before : List Write) → first ≡ worker
     → BeginsWith d i first before (view.start - 1)
     → IsFresh ends → ((s : ℕ) → connection_of connections s ≡ new_connection)
-    → IsUnused view → (1 ≤ view.start) × (view.start ≤ view.seen)
+    → HasDrawnNone view → (1 ≤ view.start) × (view.start ≤ view.seen)
     → Holds d i view.start (peers ends) first worker ends connections view false before
 first-holds d i first worker ends connections view before same begins fresh idle none started =
     subst (λ w. Holds d i view.start (peers ends) w worker ends connections view false before) (sym same)

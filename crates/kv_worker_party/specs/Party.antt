@@ -78,12 +78,6 @@ data_of d i first now view gaps = record {
   store = start_of d i now.store;
 }
 
--- the seat drew nothing, passed nothing over, and met no stamps left
-pub record IsUnused (view : View) : Type 0 where
-  pub drawn : view.drawn ≡ []
-  pub gaps : view.gaps ≡ []
-  pub spent : view.spent ≡ []
-
 -- the party keeps its promise of what it received and sent, from these writes on, with all gaps of its
 -- seat unless the counter was lifted through it from outside; and each group that it took is answered,
 -- and all stamps are below what its seat has seen

@@ -84,9 +84,10 @@ impl<D: Disk + Drop, I: Index + Drop, F: Drop> WorkerParty<D, I, F> {
     ghost use Rattle.std.specs.Prelude.{false, length, vec_len, List};
     ghost use Rattle.kv_model.specs.Head.{IsWorker};
     ghost use Rattle.kv_model.specs.History.{Write};
+    ghost use Rattle.kv_parties.specs.Stamps.{HasDrawnNone};
     ghost use Rattle.kv_ring.specs.Ends.{peers, IsFresh};
     ghost use Rattle.kv_stamps.specs.Steps.{Raises, Looks};
-    ghost use Rattle.kv_worker_party.specs.Party.{BeginsWith, IsUnused, StoodAndGoesOn};
+    ghost use Rattle.kv_worker_party.specs.Party.{BeginsWith, StoodAndGoesOn};
     ghost use Rattle.kv_groups.specs.Taking.{new_connection};
     ghost use Rattle.kv_worker_party.specs.Turns.{Turns};
 
@@ -104,7 +105,7 @@ impl<D: Disk + Drop, I: Index + Drop, F: Drop> WorkerParty<D, I, F> {
         requires workers { workers ≡ parts.worker.store.workers }
         requires one_of { IsWorker number workers }
         requires ends { IsFresh parts.ends }
-        requires unused { IsUnused parts.seat.view }
+        requires unused { HasDrawnNone parts.seat.view }
         requires started { (1 ≤ parts.seat.view.start)
             × (parts.seat.view.start ≤ parts.seat.view.seen) }
         requires ahead { parts.worker.highest < parts.seat.view.seen }

@@ -255,6 +255,9 @@ module _ {F D : Type 0} (d : disks.Ghosts D) (setting : Setting) (parties : Part
   abbrev seen_by : ℕ → View
   seen_by w = (parties.workers w).view
 
+  abbrev its : ℕ → List Pair
+  its = mine d setting parties base keep passed
+
   -- a stamp of a session's groups is one that a worker drew
   drawn-by : (s : ℕ) → s < setting.sessions → (t : ℕ) → In t (stamps (pairs_in (parties.groups s)))
       → (v : ℕ) × (v < setting.workers) × (1 ≤ among t (seen_by v).drawn)
@@ -262,12 +265,12 @@ module _ {F D : Type 0} (d : disks.Ghosts D) (setting : Setting) (parties : Part
       let back = In-filter_map-back (λ (p : Pair). stamp_of p.reply) t (pairs_in (parties.groups s))
       i in
       ⊎_elim
-      (λ (a : (w : ℕ) × (w < setting.workers) × In back.0 (mine d setting parties base keep passed w)). (
+      (λ (a : (w : ℕ) × (w < setting.workers) × In back.0 (its w)). (
         a.0,
         a.1,
         omega (
           arith,
-          count-In t (stamps (mine d setting parties base keep passed a.0)) (stamp-In t back.0 (mine d setting parties base keep passed a.0) back.1 a.2),
+          count-In t (stamps (its a.0)) (stamp-In t back.0 (its a.0) back.1 a.2),
           (owned d setting parties base keep passed).counted a.0 a.1 t,
         ),
       ))

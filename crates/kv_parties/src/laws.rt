@@ -1,6 +1,7 @@
 ghost use Rattle.kv_parties.specs.Begun.{KeptItemsBegin};
 ghost use Rattle.kv_parties.specs.Laws.{PromisesJoin, PromisesEnd, OwesNone, RecoveryJoins};
-ghost use Rattle.kv_parties.specs.Laws.{NumbersAreFew, SpentHasCause, StandsOnce, WorkerBegins, SessionBegins};
+ghost use Rattle.kv_parties.specs.Laws.{NumbersAreFew, SpentHasCause, StandsOnce, WorkerBegins};
+ghost use Rattle.kv_parties.specs.Laws.{SessionBegins};
 
 use kv_disk::Disk;
 

@@ -19,7 +19,7 @@ use Rattle.kv_stamps.specs.declared.view.View.{View}
 use Rattle.kv_parties.specs.Begun.{IsBefore}
 use Rattle.kv_parties.specs.Groups.{Asked}
 use Rattle.kv_parties.specs.Joined.{Parties, AllKeep, NonePassed, all_answered}
-use Rattle.kv_parties.specs.Laws.{CountsAll, NoneRaised}
+use Rattle.kv_parties.specs.Laws.{CountsAll}
 use Rattle.kv_parties.specs.Messages.{groups_in}
 use Rattle.kv_parties.specs.Rows.{sum_below}
 use Rattle.kv_parties.specs.Sessions.{Exchange, exchange_pairs, part_of, asked_by, all_asked}
@@ -250,8 +250,7 @@ module _ {F D : Type 0} (d : disks.Ghosts D) (setting : Setting) (parties : Part
 
 module _ {F D : Type 0} (d : disks.Ghosts D) (setting : Setting) (parties : Parties F D)
     (base : IsBefore setting parties.before) (keep : AllKeep d setting parties)
-    (passed : NonePassed setting parties) (next : ℕ) (counts : CountsAll setting parties next)
-    (calm : NoneRaised setting parties) where
+    (passed : NonePassed setting parties) (next : ℕ) (counts : CountsAll setting parties next) where
   abbrev seen_by : ℕ → View
   seen_by w = (parties.workers w).view
 
@@ -345,7 +344,7 @@ module _ {F D : Type 0} (d : disks.Ghosts D) (setting : Setting) (parties : Part
             ) in
             absurd (never w is.session is.asked less is.known
             (was_sent w is.session less is.known is.asked is.there) some)
-      ]) refl ((keep.workers w less).stamps.gaps (calm w less))
+      ]) refl (keep.workers w less).stamps.gaps
 
   -- a worker's numbers are those that it drew and met
   sizes : (w : ℕ) → w < setting.workers → sum_below next (λ k. times_in k (seen_by w))

@@ -69,7 +69,7 @@ module _ {F D : Type 0} (d : disks.Ghosts D) (setting : Setting) (worker : ℕ) 
       low = tt;
       few = omega (arith, ap size_of fresh.drawn, ap size_of fresh.spent);
       limits = none-All IsMet own.view.spent fresh.spent;
-      gaps = λ calm. none-All (IsForGroup setting (λ session. groups_in {F = F} [])) own.view.gaps
+      gaps = none-All (IsForGroup setting (λ session. groups_in {F = F} [])) own.view.gaps
           fresh.gaps;
     };
     causes = record {

@@ -71,11 +71,6 @@ CountsAll setting parties next = (number : ℕ)
     → sum_below setting.workers (λ worker. times_in number (parties.workers worker).view)
     ≡ between number (setting.floor + 1) next
 
--- no worker was made to raise the counter
-abbrev pub NoneRaised : {F D : Type 0} → Setting → Parties F D → Type 0
-NoneRaised setting parties = (worker : ℕ) → worker < setting.workers
-    → (parties.workers worker).raised ≡ false
-
 -- all workers together drew and met no more numbers than there are answered requests
 abbrev pub NumbersAreFew : (F D : Type 0) → disks.Ghosts D → Type 0
 NumbersAreFew F D d = (setting : Setting) (parties : Parties F D)
@@ -83,14 +78,12 @@ NumbersAreFew F D d = (setting : Setting) (parties : Parties F D)
     → sum_below setting.workers (λ worker. size_of (parties.workers worker).view.drawn
     + size_of (parties.workers worker).view.spent) ≤ length (all_answered setting parties)
 
--- where all numbers that the counter gave are the workers', and these raised it for groups alone,
--- one met no stamps left only where the floor and the number of answered requests pass the last
--- stamp
+-- where all numbers that the counter gave are the workers', one met no stamps left only where the
+-- floor and the number of answered requests pass the last stamp
 abbrev pub SpentHasCause : (F D : Type 0) → disks.Ghosts D → Type 0
 SpentHasCause F D d = (setting : Setting) (parties : Parties F D) (next : ℕ)
     → IsBefore setting parties.before → AllKeep d setting parties → NonePassed setting parties
-    → CountsAll setting parties next → NoneRaised setting parties
-    → (worker number : ℕ) → worker < setting.workers
+    → CountsAll setting parties next → (worker number : ℕ) → worker < setting.workers
     → first_spent (parties.workers worker).view.spent ≡ Some number
     → (2 ^ 62 ≤ setting.floor + length (all_answered setting parties)) × (2 ^ 62 < number + 512)
 

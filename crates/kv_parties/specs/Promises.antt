@@ -21,12 +21,10 @@ use Rattle.kv_parties.specs.Setting.{Setting}
 use Rattle.kv_parties.specs.Stamps.{KeepsStamps}
 use Rattle.kv_parties.specs.Workers.{AnswersGroups, done_pairs}
 
--- what a worker has beside its ring ends: what its seat knows of the counter, and whether others
--- had it raise the counter; its disk as it was and as it is; whether it is closed, and what a batch
--- would find at its store
+-- what a worker has beside its ring ends: what its seat knows of the counter, its disk as it was
+-- and as it is, whether it is closed, and what a batch would find at its store
 pub record WorkerData (D : Type 0) : Type 0 where
   pub view : View
-  pub raised : Bool
   pub first : D
   pub now : D
   pub closed : Bool
@@ -54,7 +52,7 @@ pub record WorkerPromise {D F : Type 0} (d : disks.Ghosts D) (setting : Setting)
       (λ session. answered_in (sent session)) own.view.drawn
   pub batches : List (List Pair)
   pub same : pairs_in batches ≡ done_pairs groups.history
-  pub stamps : KeepsStamps setting (λ session. groups_in (taken session)) own.view own.raised
+  pub stamps : KeepsStamps setting (λ session. groups_in (taken session)) own.view
       (pairs_in batches)
   pub causes : KeepsCauses setting before own.view.spent (d.faults own.first) (d.faults own.now)
       own.closed batches

@@ -1,7 +1,6 @@
 -- What a worker promises of the numbers that its seat drew, passed over, and met without stamps
 -- left.
 use Rattle.std.specs.Prelude.{◌≡◌, ℕ, ◌+◌, ◌<◌, ◌≤◌, List, [], length, sum_by, All, Contains}
-use Rattle.std.specs.Prelude.{Bool, false}
 use Rattle.std.specs.List.{AllByRecursion}
 use Rattle.kv_model.specs.Pairs.{Pair, stamps}
 use Rattle.kv_stamps.specs.Ranges.{PassesLimit}
@@ -28,14 +27,13 @@ abbrev pub IsMet : Range → Type 0
 IsMet run = (1 ≤ run.count) × PassesLimit run
 
 -- all stamps are below what the seat has seen; it drew and met no more numbers than there are
--- pairs, each run that it met passes the last stamp, and each gap is for a group that was taken,
--- unless the counter was raised otherwise
+-- pairs, each run that it met passes the last stamp, and each gap is for a group that was taken
 pub record KeepsStamps (setting : Setting) (taken : ℕ → List Asked) (view : View)
-    (raised : Bool) (pairs : List Pair) : Type 0 where
+    (pairs : List Pair) : Type 0 where
   pub low : AllByRecursion (λ stamp. stamp < view.seen) (stamps pairs)
   pub few : size_of view.drawn + size_of view.spent ≤ length pairs
   pub limits : All IsMet view.spent
-  pub gaps : raised ≡ false → All (IsForGroup setting taken) view.gaps
+  pub gaps : All (IsForGroup setting taken) view.gaps
 
 -- the seat drew no stamps, passed over no numbers and met no end of them
 pub record HasDrawnNone (view : View) : Type 0 where

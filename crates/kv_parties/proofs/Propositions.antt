@@ -24,7 +24,7 @@ use Rattle.kv_disk.specs.declared.disk.Disk as disks
 use Rattle.kv_parties.specs.Setting.{Setting, owned_pairs, owned_writes}
 use Rattle.kv_parties.specs.Causes.{HasCauses, IsSpentAt, IsFullAt, any_unsure, all_writes}
 use Rattle.kv_parties.specs.Recovered.{LeavesPrefixes}
-use Rattle.kv_parties.specs.Joined.{Parties, Stands, IsTold}
+use Rattle.kv_parties.specs.Joined.{Parties, Stands, IsAccounted}
 
 -- a reply as its kind, a number and a value
 abbrev code : Reply → ℕ × (ℕ × List ℕ)
@@ -174,10 +174,10 @@ same_value-prop told None (Some b) = hlevel props
 same_value-prop told (Some a) None = hlevel props
 same_value-prop told (Some a) (Some b) = hlevel props
 
-told-prop : (setting : Setting) (pairs told : List Pair)
-    → IsProp (AllByRecursion (IsTold setting pairs) told)
-told-prop setting pairs told =
-    AllByRecursion-prop (IsTold setting pairs) (λ p. hlevel props) told
+accounted-prop : (setting : Setting) (pairs told : List Pair)
+    → IsProp (AllByRecursion (IsAccounted setting pairs) told)
+accounted-prop setting pairs told =
+    AllByRecursion-prop (IsAccounted setting pairs) (λ p. hlevel props) told
 
 pub stands-prop : {F D : Type 0} (d : disks.Ghosts D) (setting : Setting) (parties : Parties F D)
     (pairs : List Pair) → IsProp (Stands d setting parties pairs)
@@ -185,7 +185,7 @@ stands-prop d setting parties pairs = hlevel (
   props,
   agrees-prop,
   order-prop,
-  told-prop,
+  accounted-prop,
   causes-prop,
   same_value-prop,
   leaves-prop,

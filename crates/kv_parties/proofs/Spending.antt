@@ -216,28 +216,60 @@ passes : (limit next first count floor many : ℕ) → limit < first + count →
     → next - (floor + 1) ≤ many → limit ≤ floor + many
 passes limit next first count floor many low high few = omega arith
 
+-- the pairs of each worker
 module _ {F D : Type 0} (d : disks.Ghosts D) (setting : Setting) (parties : Parties F D)
     (base : IsBefore setting parties.before) (keep : AllKeep d setting parties)
-    (passed : NonePassed setting parties) (next : ℕ) (counts : CountsAll setting parties next) where
+    (passed : NonePassed setting parties) where
   abbrev view : ℕ → View
   view w = (parties.workers w).view
 
   abbrev ours : ℕ → List Pair
   ours = mine d setting parties base keep passed
 
+  few_own : (w : ℕ) → w < setting.workers
+      → size_of (view w).drawn + size_of (view w).spent ≤ length (ours w)
+  few_own w lt = of_own setting parties.before (rings_of parties) (ranges_of parties)
+      (courses_of parties) (rings_keep d setting parties keep passed) base w
+      (λ pairs. size_of (view w).drawn + size_of (view w).spent ≤ length pairs) (λ less.
+      subst (λ pairs. size_of (view w).drawn + size_of (view w).spent ≤ length pairs)
+      ((keep.workers w less).same ∙ sym (same_history d setting parties keep passed w less))
+      (keep.workers w less).stamps.few) lt
+
+  -- all workers' numbers are no more than the answered requests
+  pub numbers_few : sum_below setting.workers (λ w. size_of (view w).drawn + size_of (view w).spent)
+      ≤ length (all_answered setting parties)
+  numbers_few = omega (
+    arith,
+    sum_below-le setting.workers (λ w. size_of (view w).drawn + size_of (view w).spent)
+        (λ w. weigh (λ p. 1) (ours w))
+        (λ w lt. omega (arith, few_own w lt, length-weigh (ours w))),
+    all_many setting parties.before (rings_of parties) (ranges_of parties) (courses_of parties)
+        (rings_keep d setting parties keep passed) base (λ p. 1),
+    length-weigh (all_answered setting parties),
+  )
+
+module _ {F D : Type 0} (d : disks.Ghosts D) (setting : Setting) (parties : Parties F D)
+    (base : IsBefore setting parties.before) (keep : AllKeep d setting parties)
+    (passed : NonePassed setting parties) (next : ℕ) (counts : CountsAll setting parties next) where
+  abbrev seen_by : ℕ → View
+  seen_by w = (parties.workers w).view
+
+  abbrev its : ℕ → List Pair
+  its = mine d setting parties base keep passed
+
   -- a stamp of a session's groups is one that a worker drew
   drawn-by : (s : ℕ) → s < setting.sessions → (t : ℕ) → In t (stamps (pairs_in (parties.groups s)))
-      → (v : ℕ) × (v < setting.workers) × (1 ≤ among t (view v).drawn)
+      → (v : ℕ) × (v < setting.workers) × (1 ≤ among t (seen_by v).drawn)
   drawn-by s lt t i =
       let back = In-filter_map-back (λ (p : Pair). stamp_of p.reply) t (pairs_in (parties.groups s))
       i in
       ⊎_elim
-      (λ (a : (w : ℕ) × (w < setting.workers) × In back.0 (ours w)). (
+      (λ (a : (w : ℕ) × (w < setting.workers) × In back.0 (its w)). (
         a.0,
         a.1,
         omega (
           arith,
-          count-In t (stamps (ours a.0)) (stamp-In t back.0 (ours a.0) back.1 a.2),
+          count-In t (stamps (its a.0)) (stamp-In t back.0 (its a.0) back.1 a.2),
           (owned d setting parties base keep passed).counted a.0 a.1 t,
         ),
       ))
@@ -247,22 +279,22 @@ module _ {F D : Type 0} (d : disks.Ghosts D) (setting : Setting) (parties : Part
       (courses_of parties) (rings_keep d setting parties keep passed) base s lt back.0 back.2)
 
   -- all numbers that were drawn, and all that were passed over or met, are those of the counter
-  parts : (k : ℕ) → sum_below setting.workers (λ w. among k (view w).drawn)
-      + sum_below setting.workers (λ w. among k (view w).gaps + among k (view w).spent)
+  parts : (k : ℕ) → sum_below setting.workers (λ w. among k (seen_by w).drawn)
+      + sum_below setting.workers (λ w. among k (seen_by w).gaps + among k (seen_by w).spent)
       ≡ between k (setting.floor + 1) next
   parts k = omega (
     arith,
-    sum_below-add setting.workers (λ w. among k (view w).drawn)
-        (λ w. among k (view w).gaps + among k (view w).spent),
+    sum_below-add setting.workers (λ w. among k (seen_by w).drawn)
+        (λ w. among k (seen_by w).gaps + among k (seen_by w).spent),
     counts k,
   )
 
   -- no number in a gap is the last one that a session had seen
   never : (w s : ℕ) (message : Asked) → w < setting.workers → s < setting.sessions
-      → In message (groups_in (parties.asks_sent s w)) → 1 ≤ among message.seen (view w).gaps → ⊥
+      → In message (groups_in (parties.asks_sent s w)) → 1 ≤ among message.seen (seen_by w).gaps → ⊥
   never w s message less lt i some =
       let at_w = sum_below-at setting.workers w
-      (λ w. among message.seen (view w).gaps + among message.seen (view w).spent) less in
+      (λ w. among message.seen (seen_by w).gaps + among message.seen (seen_by w).spent) less in
       let all = parts message.seen in
       ⊎_elim
       (λ (zero_is : message.seen ≡ 0).
@@ -277,7 +309,7 @@ module _ {F D : Type 0} (d : disks.Ghosts D) (setting : Setting) (parties : Part
         all,
         some,
         by.2,
-        sum_below-at setting.workers by.0 (λ v. among message.seen (view v).drawn) by.1,
+        sum_below-at setting.workers by.0 (λ v. among message.seen (seen_by v).drawn) by.1,
         between-most message.seen (setting.floor + 1) next,
       )))
       (asked-from setting (λ w. groups_in (parties.asks_sent s w)) _ (parties.groups s)
@@ -295,16 +327,16 @@ module _ {F D : Type 0} (d : disks.Ghosts D) (setting : Setting) (parties : Part
       ∙ groups-asking (parties.asks_received w s))
       (Contains-In message (groups_in ((keep.workers w less).taken s)) has)))
 
-  no_gaps : (w : ℕ) → w < setting.workers → (view w).gaps ≡ []
+  no_gaps : (w : ℕ) → w < setting.workers → (seen_by w).gaps ≡ []
   no_gaps w less =
-      (elim (view w).gaps as (λ gaps. (view w).gaps ≡ gaps
+      (elim (seen_by w).gaps as (λ gaps. (seen_by w).gaps ≡ gaps
       → All (IsForGroup setting (λ s. groups_in ((keep.workers w less).taken s))) gaps
       → gaps ≡ []) [
         | [] ↦ λ e all. refl
         | gap ∷ gaps ↦ λ e all.
             let is = All-head (IsForGroup setting
             (λ s. groups_in ((keep.workers w less).taken s))) gap gaps all in
-            let some : 1 ≤ among is.asked.seen (view w).gaps = omega (
+            let some : 1 ≤ among is.asked.seen (seen_by w).gaps = omega (
               arith,
               ap (among is.asked.seen) e,
               sum_by-cons (within is.asked.seen) gap gaps,
@@ -314,28 +346,17 @@ module _ {F D : Type 0} (d : disks.Ghosts D) (setting : Setting) (parties : Part
             (was_sent w is.session less is.known is.asked is.there) some)
       ]) refl (keep.workers w less).stamps.gaps
 
-  few_own : (w : ℕ) → w < setting.workers
-      → size_of (view w).drawn + size_of (view w).spent ≤ length (ours w)
-  few_own w lt = of_own setting parties.before (rings_of parties) (ranges_of parties)
-      (courses_of parties) (rings_keep d setting parties keep passed) base w
-      (λ pairs. size_of (view w).drawn + size_of (view w).spent ≤ length pairs) (λ less.
-      subst (λ pairs. size_of (view w).drawn + size_of (view w).spent ≤ length pairs)
-      ((keep.workers w less).same ∙ sym (same_history d setting parties keep passed w less))
-      (keep.workers w less).stamps.few) lt
-
-  -- a worker's numbers are no more than its pairs
-  numbers_few : (w : ℕ) → w < setting.workers
-      → sum_below next (λ k. times_in k (view w)) ≤ weigh (λ p. 1) (ours w)
-  numbers_few w lt = omega (
+  -- a worker's numbers are those that it drew and met
+  sizes : (w : ℕ) → w < setting.workers → sum_below next (λ k. times_in k (seen_by w))
+      ≤ size_of (seen_by w).drawn + size_of (seen_by w).spent
+  sizes w lt = omega (
     arith,
-    sum_below-same next (λ k. times_in k (view w))
-        (λ k. among k (view w).drawn + among k (view w).spent)
+    sum_below-same next (λ k. times_in k (seen_by w))
+        (λ k. among k (seen_by w).drawn + among k (seen_by w).spent)
         (λ k low. omega (arith, ap (among k) (no_gaps w lt))),
-    sum_below-add next (λ k. among k (view w).drawn) (λ k. among k (view w).spent),
-    among-below next (view w).drawn,
-    among-below next (view w).spent,
-    few_own w lt,
-    length-weigh (ours w),
+    sum_below-add next (λ k. among k (seen_by w).drawn) (λ k. among k (seen_by w).spent),
+    among-below next (seen_by w).drawn,
+    among-below next (seen_by w).spent,
   )
 
   -- so the counter gave no more numbers than there are answered requests
@@ -344,20 +365,18 @@ module _ {F D : Type 0} (d : disks.Ghosts D) (setting : Setting) (parties : Part
     arith,
     between-below next (setting.floor + 1) next,
     sum_below-same next (λ k. between k (setting.floor + 1) next)
-        (λ k. sum_below setting.workers (λ w. times_in k (view w))) (λ k lt. sym (counts k)),
-    sum_below-swap next setting.workers (λ k w. times_in k (view w)),
-    sum_below-le setting.workers (λ w. sum_below next (λ k. times_in k (view w)))
-        (λ w. weigh (λ p. 1) (ours w)) numbers_few,
-    all_many setting parties.before (rings_of parties) (ranges_of parties) (courses_of parties)
-        (rings_keep d setting parties keep passed) base (λ p. 1),
-    length-weigh (all_answered setting parties),
+        (λ k. sum_below setting.workers (λ w. times_in k (seen_by w))) (λ k lt. sym (counts k)),
+    sum_below-swap next setting.workers (λ k w. times_in k (seen_by w)),
+    sum_below-le setting.workers (λ w. sum_below next (λ k. times_in k (seen_by w)))
+        (λ w. size_of (seen_by w).drawn + size_of (seen_by w).spent) sizes,
+    numbers_few d setting parties base keep passed,
   )
 
   pub spent_cause : (w number : ℕ) → w < setting.workers
-      → first_spent (view w).spent ≡ Some number
+      → first_spent (seen_by w).spent ≡ Some number
       → (2 ^ 62 ≤ setting.floor + length (all_answered setting parties)) × (2 ^ 62 < number + 512)
   spent_cause w number lt =
-      (elim (view w).spent as (λ runs. (view w).spent ≡ runs → All IsMet runs
+      (elim (seen_by w).spent as (λ runs. (seen_by w).spent ≡ runs → All IsMet runs
       → first_spent runs ≡ Some number
       → (2 ^ 62 ≤ setting.floor + length (all_answered setting parties))
       × (2 ^ 62 < number + 512)) [
@@ -367,7 +386,7 @@ module _ {F D : Type 0} (d : disks.Ghosts D) (setting : Setting) (parties : Part
             let is : run.first ≡ number = from_some run.first number first in
             let last : ℕ = run.first + run.count - 1 in
             let ends : run.first + run.count ≡ last + 1 = omega (arith, met.0) in
-            let some : 1 ≤ among last (view w).spent = omega (
+            let some : 1 ≤ among last (seen_by w).spent = omega (
               arith,
               ap (among last) e,
               sum_by-cons (within last) run runs,
@@ -378,7 +397,7 @@ module _ {F D : Type 0} (d : disks.Ghosts D) (setting : Setting) (parties : Part
               some,
               parts last,
               sum_below-at setting.workers w
-                  (λ w. among last (view w).gaps + among last (view w).spent) lt,
+                  (λ w. among last (seen_by w).gaps + among last (seen_by w).spent) lt,
             )) in
             let reached : run.first + run.count ≤ next = omega (arith, inside.1, ends) in (
               passes (2 ^ 62) next run.first run.count setting.floor

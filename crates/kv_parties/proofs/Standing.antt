@@ -10,7 +10,7 @@ use Rattle.kv_parties.specs.Begun.{IsBefore, all_before}
 use Rattle.kv_parties.specs.Causes.{KeepsCauses}
 use Rattle.kv_parties.specs.Promises.{KeepsMap}
 use Rattle.kv_parties.specs.Joined.{Parties, AllKeep, NonePassed, NoneWaits, Stands}
-use Rattle.kv_parties.specs.Joined.{all_answered, all_pairs, IsTold}
+use Rattle.kv_parties.specs.Joined.{all_answered, all_pairs, IsAccounted}
 use Rattle.kv_parties.specs.Recovered.{Recovers, LeavesPrefixes}
 use Rattle.kv_parties.specs.Setting.{Setting}
 use Rattle.kv_parties.specs.Workers.{done_pairs}
@@ -69,7 +69,8 @@ module _ {F D : Type 0} (d : disks.Ghosts D) (setting : Setting) (parties : Part
     right = agrees setting parties.before base mine (ranges_of parties) owned pairs fits;
     ordered = ordered_groups setting parties.before (rings_of parties) (ranges_of parties)
         (courses_of parties) (rings_keep d setting parties keep passed) base;
-    told = λ s lt. In-All (IsTold setting pairs) (pairs_in (parties.groups s)) (λ p i. ⊎_elim
+    accounted = λ s lt. In-All (IsAccounted setting pairs) (pairs_in (parties.groups s)) (λ p i.
+        ⊎_elim
         (λ (a : (w : ℕ) × (w < setting.workers) × In p (mine w)).
         ∣ inl (In-Contains p pairs (fits.all a.0 p a.1 a.2)) ∣₁)
         (λ (b : IsHere setting.layout p). ∣ inr b.own ∣₁)

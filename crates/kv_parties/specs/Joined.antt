@@ -39,8 +39,8 @@ pub record Parties (F D : Type 0) : Type 0 where
   pub waiting : ℕ → Bool
 
 -- the pair is one of these, or one that its session answered itself
-abbrev pub IsTold : Setting → List Pair → Pair → Type 0
-IsTold setting pairs pair = ∥ Contains pairs pair ⊎ IsOwn setting.layout pair ∥₁
+abbrev pub IsAccounted : Setting → List Pair → Pair → Type 0
+IsAccounted setting pairs pair = ∥ Contains pairs pair ⊎ IsOwn setting.layout pair ∥₁
 
 module _ {F D : Type 0} where
   -- all pairs that workers answered: by worker, then by session
@@ -90,8 +90,8 @@ module _ {F D : Type 0} where
         setting.floor pairs
     pub ordered : (session : ℕ) → session < setting.sessions
         → RespectsOrder (parties.groups session)
-    pub told : (session : ℕ) → session < setting.sessions
-        → AllByRecursion (IsTold setting pairs) (pairs_in (parties.groups session))
+    pub accounted : (session : ℕ) → session < setting.sessions
+        → AllByRecursion (IsAccounted setting pairs) (pairs_in (parties.groups session))
     pub causes : (worker : ℕ) → worker < setting.workers → HasCauses setting worker
         (all_before setting parties.before) (parties.workers worker).view.spent
         (d.faults (parties.workers worker).first) (d.faults (parties.workers worker).now)

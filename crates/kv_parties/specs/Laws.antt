@@ -21,7 +21,7 @@ use Rattle.kv_parties.specs.Promises.{WorkerData, KeepsMap, WorkerPromise, Sessi
 use Rattle.kv_parties.specs.Recovered.{Recovers}
 use Rattle.kv_parties.specs.Rows.{sum_below}
 use Rattle.kv_parties.specs.Setting.{Setting}
-use Rattle.kv_parties.specs.Stamps.{HasDrawnNone}
+use Rattle.kv_parties.specs.Stamps.{size_of, HasDrawnNone}
 use Rattle.kv_parties.specs.Workers.{done_pairs}
 
 -- where all parties keep their promises and no message was passed over, this stands of all pairs
@@ -70,6 +70,13 @@ abbrev pub CountsAll : {F D : Type 0} → Setting → Parties F D → ℕ → Ty
 CountsAll setting parties next = (number : ℕ)
     → sum_below setting.workers (λ worker. times_in number (parties.workers worker).view)
     ≡ between number (setting.floor + 1) next
+
+-- all workers together drew and met no more numbers than there are answered requests
+abbrev pub NumbersAreFew : (F D : Type 0) → disks.Ghosts D → Type 0
+NumbersAreFew F D d = (setting : Setting) (parties : Parties F D)
+    → IsBefore setting parties.before → AllKeep d setting parties → NonePassed setting parties
+    → sum_below setting.workers (λ worker. size_of (parties.workers worker).view.drawn
+    + size_of (parties.workers worker).view.spent) ≤ length (all_answered setting parties)
 
 -- where all numbers that the counter gave are the workers', one met no stamps left only where the
 -- floor and the number of answered requests pass the last stamp

@@ -1,6 +1,7 @@
 ghost use Rattle.kv_parties.specs.Begun.{KeptItemsBegin};
 ghost use Rattle.kv_parties.specs.Laws.{PromisesJoin, PromisesEnd, OwesNone, RecoveryJoins};
-ghost use Rattle.kv_parties.specs.Laws.{SpentHasCause, StandsOnce, WorkerBegins, SessionBegins};
+ghost use Rattle.kv_parties.specs.Laws.{NumbersAreFew, SpentHasCause, StandsOnce, WorkerBegins};
+ghost use Rattle.kv_parties.specs.Laws.{SessionBegins};
 
 use kv_disk::Disk;
 
@@ -40,6 +41,11 @@ pub fn owes_none<F, D: Disk>()
 /// An image that recovers a prefix of its worker's writes does so of the writes of all workers.
 pub fn recovery_joins<F, D: Disk>()
     ensures { RecoveryJoins F D ⟦<D as Disk>⟧ }
+{}
+
+/// The workers draw no more stamps than there are answered requests.
+pub fn numbers_are_few<F, D: Disk>()
+    ensures { NumbersAreFew F D ⟦<D as Disk>⟧ }
 {}
 
 /// Where a worker meets no stamps left, the floor and the number of requests pass the last one.

@@ -380,7 +380,7 @@ holds-turn {D = D} {I = I} {F = F} laws d i start sessions first old now ends ne
     (subst (λ gs. Contains gs asked) (sym (taken_more found.0))
     (Contains-append_right (groups_in (h.promise.taken found.0)) (groups_in (message found.0))
     asked (subst (λ o. Contains (groups_in (message_of {F = F} o)) asked) (sym found.2.1.0)
-    (Contains-first [] asked))))
+    (Contains-first asked []))))
     (subst (λ n. All (IsGapBehind n) counted.more) (t.seen_is ∙ sym found.2.1.1)
     counted.each)) in
     let promise : WorkerPromise d setting first.store.worker before (received_from new)

@@ -19,7 +19,7 @@ use Rattle.kv_parties.specs.Groups.{Answers}
 use Rattle.kv_parties.specs.Messages.{groups_in, answered_in, all_asking, IsPartOf, IsWhole}
 use Rattle.kv_parties.specs.Causes.{KeepsCauses, all_writes}
 use Rattle.kv_parties.specs.Workers.{done_pairs, done_for}
-use Rattle.kv_parties.specs.Stamps.{HasDrawnNone, IsForGroup, IsMet, size_of}
+use Rattle.kv_parties.specs.Stamps.{HasDrawnNone, IsMet, size_of}
 use Rattle.kv_stamps.specs.Ranges.{among}
 use Rattle.kv_worker_party.specs.Laws.{PartyLaws}
 use Rattle.kv_worker_party.specs.Party.{BeginsWith, Holds, LeavesEach, StoodAndGoesOn, answers_to, setting_of}
@@ -406,21 +406,21 @@ answered-length old new replies are =
 -- the promise stood, and goes on
 pub goes-from : {D I F : Type 0} (laws : PartyLaws) (d : disks.Ghosts D) (i : indexes.Ghosts I)
     (first old now : WorkerView D I) (ends new : Ends (Answer F) (Ask F) 8)
-    (connections after : List (Connection F)) (view later : View) (raised : Bool) (turn : Turn)
+    (connections after : List (Connection F)) (view later : View) (lifted : Bool) (turn : Turn)
     → (1 ≤ view.start) × (view.start ≤ view.seen)
     → ((before : List Write) → BeginsWith d i first before (view.start - 1)
-    → ∥ Holds d i view.start (peers ends) first old ends connections view raised before ∥₁)
+    → ∥ Holds d i view.start (peers ends) first old ends connections view lifted before ∥₁)
     → Turns d i old now ends new connections after view later turn
     → (before : List Write) → BeginsWith d i first before (view.start - 1)
     → ∥ StoodAndGoesOn d i view.start (peers ends) first old now ends new connections after view
-    later raised before ∥₁
-goes-from {D = D} {I = I} {F = F} laws d i first old now ends new connections after view later raised
+    later lifted before ∥₁
+goes-from {D = D} {I = I} {F = F} laws d i first old now ends new connections after view later lifted
     turn started promise t before begins =
     ∥∥₁_map (promise before begins)
-    (λ (h : Holds d i view.start (peers ends) first old ends connections view raised before). (
+    (λ (h : Holds d i view.start (peers ends) first old ends connections view lifted before). (
       h,
       holds-turn laws d i view.start (peers ends) first old now ends new connections after view
-          later turn raised before h started
+          later turn lifted before h started
           (All-map (λ write. write.stamp ≤ view.start - 1) (λ write. write.stamp < view.seen) before
           (λ write le. omega (arith, le, started.0, started.1)) begins.below) refl t,
     ))
@@ -428,37 +428,39 @@ goes-from {D = D} {I = I} {F = F} laws d i first old now ends new connections af
 -- the promise goes on
 pub goes-on : {D I F : Type 0} (laws : PartyLaws) (d : disks.Ghosts D) (i : indexes.Ghosts I)
     (first old now : WorkerView D I) (ends new : Ends (Answer F) (Ask F) 8)
-    (connections after : List (Connection F)) (view later : View) (raised : Bool) (turn : Turn)
+    (connections after : List (Connection F)) (view later : View) (lifted : Bool) (turn : Turn)
     → (1 ≤ view.start) × (view.start ≤ view.seen)
     → ((before : List Write) → BeginsWith d i first before (view.start - 1)
-    → ∥ Holds d i view.start (peers ends) first old ends connections view raised before ∥₁)
+    → ∥ Holds d i view.start (peers ends) first old ends connections view lifted before ∥₁)
     → Turns d i old now ends new connections after view later turn → later.start ≡ view.start
     → (before : List Write) → BeginsWith d i first before (later.start - 1)
-    → ∥ Holds d i later.start (peers new) first now new after later raised before ∥₁
-goes-on {D = D} {I = I} {F = F} laws d i first old now ends new connections after view later raised
+    → ∥ Holds d i later.start (peers new) first now new after later lifted before ∥₁
+goes-on {D = D} {I = I} {F = F} laws d i first old now ends new connections after view later lifted
     turn started promise t start_is before begins =
-    let P : ℕ → ℕ → Type 0 = λ m n. Holds d i m n first now new after later raised before in
-    ∥∥₁_map (goes-from laws d i first old now ends new connections after view later raised turn
+    let P : ℕ → ℕ → Type 0 = λ m n. Holds d i m n first now new after later lifted before in
+    ∥∥₁_map (goes-from laws d i first old now ends new connections after view later lifted turn
     started promise t before (subst (λ n. BeginsWith d i first before (n - 1)) start_is begins))
     (λ (g : StoodAndGoesOn d i view.start (peers ends) first old now ends new connections after view
-    later raised before). subst₂ P (sym start_is) (sym t.rings.peers) g.1.holds)
+    later lifted before). subst₂ P (sym start_is) (sym t.rings.peers) g.1.holds)
 
 -- a seat that only looked, or was raised from outside, which is noted
-pub record Raised (view later : View) (raised again : Bool) : Type 0 where
+pub record Lifts (view later : View) (lifted raised : Bool) : Type 0 where
   pub stays : Stayed view later
   pub spent : later.spent ≡ view.spent
-  pub gaps : again ≡ false → (raised ≡ false) × (later.gaps ≡ view.gaps)
+  pub gaps : raised ≡ false → (lifted ≡ false) × (later.gaps ≡ view.gaps)
 
 -- the promise stays where only the seat looked or was raised
 pub goes-later : {D I F : Type 0} (d : disks.Ghosts D) (i : indexes.Ghosts I)
     (start sessions : ℕ) (first now : WorkerView D I) (ends : Ends (Answer F) (Ask F) 8)
-    (connections : List (Connection F)) (view later : View) (raised again : Bool)
+    (connections : List (Connection F)) (view later : View) (lifted raised : Bool)
     (before : List Write)
-    → Holds d i start sessions first now ends connections view raised before
-    → Raised view later raised again
-    → Holds d i start sessions first now ends connections later again before
-goes-later d i start sessions first now ends connections view later raised again before h rise =
+    → Holds d i start sessions first now ends connections view lifted before
+    → Lifts view later lifted raised
+    → Holds d i start sessions first now ends connections later raised before
+goes-later d i start sessions first now ends connections view later lifted raised before h lifts =
     record {
+      gaps = h.gaps;
+      gaps_are = λ is. let l = lifts.gaps is in h.gaps_are l.0 ∙ sym l.1;
       promise = record {
         taken = h.promise.taken;
         part = h.promise.part;
@@ -469,7 +471,7 @@ goes-later d i start sessions first now ends connections view later raised again
           right = h.promise.groups.right;
           rising = h.promise.groups.rising;
           drawn = subst (λ ranges. AllByRecursion (λ stamp. 1 ≤ among stamp ranges)
-              (stamps (done_pairs h.promise.groups.history))) (sym rise.stays.drawn)
+              (stamps (done_pairs h.promise.groups.history))) (sym lifts.stays.drawn)
               h.promise.groups.drawn;
           owned = h.promise.groups.owned;
           known = h.promise.groups.known;
@@ -481,28 +483,25 @@ goes-later d i start sessions first now ends connections view later raised again
         stamps = record {
           low = All-map (λ stamp. stamp < view.seen) (λ stamp. stamp < later.seen)
               (stamps (pairs_in h.promise.batches))
-              (λ stamp lt. omega (arith, lt, rise.stays.up)) h.promise.stamps.low;
+              (λ stamp lt. omega (arith, lt, lifts.stays.up)) h.promise.stamps.low;
           few =
               let a = h.promise.stamps.few in
-              let b = ap size_of rise.stays.drawn in
-              let c = ap size_of rise.spent in
+              let b = ap size_of lifts.stays.drawn in
+              let c = ap size_of lifts.spent in
               omega (arith, a, b, c);
-          limits = subst (All IsMet) (sym rise.spent) h.promise.stamps.limits;
-          gaps = λ is. let l = rise.gaps is in
-              subst (All (IsForGroup (setting_of d.tells start sessions first.store.workers
-              first.store.limits.slots) (λ s. groups_in (h.promise.taken s)))) (sym l.1)
-              (h.promise.stamps.gaps l.0);
+          limits = subst (All IsMet) (sym lifts.spent) h.promise.stamps.limits;
+          gaps = h.promise.stamps.gaps;
         };
         causes = subst (λ runs. KeepsCauses (setting_of d.tells start sessions first.store.workers
             first.store.limits.slots) before runs (d.faults first.store.disk.disk)
-            (d.faults now.store.disk.disk) now.store.closed h.promise.batches) (sym rise.spent)
+            (d.faults now.store.disk.disk) now.store.closed h.promise.batches) (sym lifts.spent)
             h.promise.causes;
-        map = λ open_ stamp le. h.promise.map open_ stamp (omega (arith, le, rise.stays.up));
+        map = λ open_ stamp le. h.promise.map open_ stamp (omega (arith, le, lifts.stays.up));
         leaves = h.promise.leaves;
       };
       paired = h.paired;
       low = has-weaker (λ stamp. stamp < view.seen) (λ stamp. stamp < later.seen)
-          (λ stamp lt. omega (arith, lt, rise.stays.up)) (done_pairs h.promise.groups.history)
+          (λ stamp lt. omega (arith, lt, lifts.stays.up)) (done_pairs h.promise.groups.history)
           h.low;
       sure = h.sure;
       leaves = h.leaves;
@@ -511,32 +510,34 @@ goes-later d i start sessions first now ends connections view later raised again
 
 pub later-promise : {D I F : Type 0} (d : disks.Ghosts D) (i : indexes.Ghosts I)
     (first now : WorkerView D I) (ends : Ends (Answer F) (Ask F) 8)
-    (connections : List (Connection F)) (view later : View) (raised again : Bool)
-    → Raised view later raised again
+    (connections : List (Connection F)) (view later : View) (lifted raised : Bool)
+    → Lifts view later lifted raised
     → ((before : List Write) → BeginsWith d i first before (view.start - 1)
-    → ∥ Holds d i view.start (peers ends) first now ends connections view raised before ∥₁)
+    → ∥ Holds d i view.start (peers ends) first now ends connections view lifted before ∥₁)
     → (before : List Write) → BeginsWith d i first before (later.start - 1)
-    → ∥ Holds d i later.start (peers ends) first now ends connections later again before ∥₁
-later-promise d i first now ends connections view later raised again rise promise before begins =
+    → ∥ Holds d i later.start (peers ends) first now ends connections later raised before ∥₁
+later-promise d i first now ends connections view later lifted raised lifts promise before begins =
     ∥∥₁_map
-    (promise before (subst (λ n. BeginsWith d i first before (n - 1)) rise.stays.start begins))
-    (λ (h : Holds d i view.start (peers ends) first now ends connections view raised before).
-    subst (λ m. Holds d i m (peers ends) first now ends connections later again before)
-    (sym rise.stays.start)
-    (goes-later d i view.start (peers ends) first now ends connections view later raised again
-    before h rise))
+    (promise before (subst (λ n. BeginsWith d i first before (n - 1)) lifts.stays.start begins))
+    (λ (h : Holds d i view.start (peers ends) first now ends connections view lifted before).
+    subst (λ m. Holds d i m (peers ends) first now ends connections later raised before)
+    (sym lifts.stays.start)
+    (goes-later d i view.start (peers ends) first now ends connections view later lifted raised
+    before h lifts))
 
 -- the promise stays where the ends only looked
 pub looked-promise : {D I F : Type 0} (d : disks.Ghosts D) (i : indexes.Ghosts I)
     (start : ℕ) (first now : WorkerView D I) (ends new : Ends (Answer F) (Ask F) 8) (peer : ℕ)
-    (connections : List (Connection F)) (view : View) (raised : Bool) (before : List Write)
+    (connections : List (Connection F)) (view : View) (lifted : Bool) (before : List Write)
     → Looked peer ends new
-    → ∥ Holds d i start (peers ends) first now ends connections view raised before ∥₁
-    → ∥ Holds d i start (peers new) first now new connections view raised before ∥₁
-looked-promise {F = F} d i start first now ends new peer connections view raised before looked promise =
-    ∥∥₁_map promise (λ (h : Holds d i start (peers ends) first now ends connections view raised before).
-    subst (λ n. Holds d i start n first now new connections view raised before) (sym looked.rings.peers)
+    → ∥ Holds d i start (peers ends) first now ends connections view lifted before ∥₁
+    → ∥ Holds d i start (peers new) first now new connections view lifted before ∥₁
+looked-promise {F = F} d i start first now ends new peer connections view lifted before looked promise =
+    ∥∥₁_map promise (λ (h : Holds d i start (peers ends) first now ends connections view lifted before).
+    subst (λ n. Holds d i start n first now new connections view lifted before) (sym looked.rings.peers)
     (record {
+      gaps = h.gaps;
+      gaps_are = h.gaps_are;
       promise = record {
         taken = h.promise.taken;
         part = λ s lt. subst (λ ms. IsPartOf (h.promise.taken s) (all_asking ms))
@@ -588,6 +589,8 @@ first-promise {D = D} {I = I} {F = F} d i worker ends connections view before be
     sym (ap (λ given. given ++ option_to_list (connection_of connections s).waiting) (fresh.sent s)
     ∙ ap (λ (c : Connection F). option_to_list c.waiting) (idle s)) in
     record {
+      gaps = [];
+      gaps_are = λ is. sym none.gaps;
       promise = record {
         taken = λ s. [];
         part = λ s lt. tt;
@@ -612,9 +615,7 @@ first-promise {D = D} {I = I} {F = F} d i worker ends connections view before be
               let b = ap size_of none.spent in
               omega (arith, a, b);
           limits = subst (All IsMet) (sym none.spent) (λ k e lt. absurd (omega (arith, lt)));
-          gaps = λ is. subst (All (IsForGroup (setting_of d.tells view.start (peers ends)
-              worker.store.workers worker.store.limits.slots) (λ s. []))) (sym none.gaps)
-              (λ k e lt. absurd (omega (arith, lt)));
+          gaps = λ k e lt. absurd (omega (arith, lt));
         };
         causes = record {
           few = tt;

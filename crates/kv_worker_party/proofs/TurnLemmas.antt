@@ -237,14 +237,14 @@ leaves-prefixes d setting worker first now before pairs layout leaves = record {
 pub holds-turn : {D I F : Type 0} (laws : PartyLaws) (d : disks.Ghosts D) (i : indexes.Ghosts I)
     (start sessions : ℕ) (first old now : WorkerView D I) (ends new : Ends (Answer F) (Ask F) 8)
     (connections after : List (Connection F)) (view later : View) (turn : Turn)
-    (raised : Bool) (before : List Write)
-    → (h : Holds d i start sessions first old ends connections view raised before)
+    (lifted : Bool) (before : List Write)
+    → (h : Holds d i start sessions first old ends connections view lifted before)
     → (1 ≤ start) × (start ≤ view.seen)
     → AllByRecursion (λ write. write.stamp < view.seen) before → peers ends ≡ sessions
     → Turns d i old now ends new connections after view later turn
-    → GoesOn d i start sessions first old now ends new connections after view later raised before h
+    → GoesOn d i start sessions first old now ends new connections after view later lifted before h
 holds-turn {D = D} {I = I} {F = F} laws d i start sessions first old now ends new connections after view later
-    turn raised before h above earlier size t =
+    turn lifted before h above earlier size t =
     let history : List Done = h.promise.groups.history in
     let pairs : List Pair = done_pairs history in
     let worker : ℕ = old.store.worker in
@@ -361,6 +361,7 @@ holds-turn {D = D} {I = I} {F = F} laws d i start sessions first old now ends ne
     t.served)) in
     let counted = served-counted d i old now t.seen view later requests t.replies
     (omega (arith, length-map items (λ (i : ℕ × Task). i.1.request), t.few)) t.served in
+    let gaps : List Range = h.gaps ++ counted.more in
     let new-gaps : (counted.more ≡ []) ⊎ (1 ≤ length requests)
     → All (IsForGroup setting (λ s. groups_in (taken s))) counted.more = ⊎_elim
     (λ (none : counted.more ≡ []).
@@ -384,7 +385,7 @@ holds-turn {D = D} {I = I} {F = F} laws d i start sessions first old now ends ne
     (subst (λ n. All (IsGapBehind n) counted.more) (t.seen_is ∙ sym found.2.1.1)
     counted.each)) in
     let promise : WorkerPromise d setting first.store.worker before (received_from new)
-    (answers_to new after) (data_of d i first now later raised) = record {
+    (answers_to new after) (data_of d i first now later gaps) = record {
       taken = taken;
       part = λ s lt. subst (IsPartOf (taken s))
           (sym (ap all_asking (came s lt)
@@ -462,12 +463,12 @@ holds-turn {D = D} {I = I} {F = F} laws d i start sessions first old now ends ne
             let f = ap length h.promise.same in
             omega (arith, a, b, c, e, f, group_many);
         limits = counted.limits h.promise.stamps.limits;
-        gaps = λ is. subst (All (IsForGroup setting (λ s. groups_in (taken s)))) (sym counted.gaps)
-            (All-append_at (IsForGroup setting (λ s. groups_in (taken s))) view.gaps counted.more
+        gaps = All-append_at (IsForGroup setting (λ s. groups_in (taken s))) h.gaps counted.more
             (gaps-longer setting (λ s. groups_in (h.promise.taken s)) (λ s. groups_in (taken s))
-            view.gaps (λ s asked there. subst (λ gs. Contains gs asked) (sym (taken_more s))
+            h.gaps (λ s asked there. subst (λ gs. Contains gs asked) (sym (taken_more s))
             (Contains-append_left (groups_in (h.promise.taken s)) (groups_in (message s)) asked
-            there)) (h.promise.stamps.gaps is)) (new-gaps counted.some));
+            there)) h.promise.stamps.gaps)
+            (new-gaps counted.some);
       };
       causes = causes;
       map = λ is_open stamp le. subst (λ ps. FollowsHistory d.tells (before ++ writes ps) stamp
@@ -478,7 +479,9 @@ holds-turn {D = D} {I = I} {F = F} laws d i start sessions first old now ends ne
           (leaves-prefixes d setting first.store.worker first.store.disk.disk now.store.disk.disk
           before (pairs ++ group) refl r.0.leaves);
     } in
-    let holds : Holds d i start sessions first now new after later raised before = record {
+    let holds : Holds d i start sessions first now new after later lifted before = record {
+      gaps = gaps;
+      gaps_are = λ is. ap (λ gs. gs ++ counted.more) (h.gaps_are is) ∙ sym counted.gaps;
       promise = promise;
       paired = λ s lt.
           let a = ap length (answered_more s lt)

@@ -20,6 +20,7 @@ use Rattle.kv_ring.specs.Ends.{sent_to, received_from, peers}
 use Rattle.kv_ring.specs.declared.ends.Ends.{Ends}
 use Rattle.kv_ring.specs.declared.message.Answer.{Answer}
 use Rattle.kv_ring.specs.declared.message.Ask.{Ask}
+use Rattle.kv_stamps.specs.declared.view.Range.{Range}
 use Rattle.kv_stamps.specs.declared.view.View.{View}
 use Rattle.kv_groups.specs.declared.connection.Connection.{Connection}
 use Rattle.kv_groups.specs.Taking.{connection_of}
@@ -66,27 +67,29 @@ pub record BeginsWith {D I : Type 0} (d : disks.Ghosts D) (i : indexes.Ghosts I)
       → MayLeave (d.leaves worker.store.disk.disk (d.calls worker.store.disk.disk)) image
       → RecoversPrefix all_classes before before image worker.store.worker worker.store.workers
 
--- what the worker has beside its ring ends, where others had it raise the counter or not
+-- what the worker has beside its ring ends, with these of the gaps that its seat left
 abbrev pub data_of : {D I : Type 0} → disks.Ghosts D → indexes.Ghosts I → WorkerView D I
-    → WorkerView D I → View → Bool → WorkerData D
-data_of d i first now view raised = record {
-  view = view;
-  raised = raised;
+    → WorkerView D I → View → List Range → WorkerData D
+data_of d i first now view gaps = record {
+  view = record view { gaps = gaps };
   first = first.store.disk.disk;
   now = now.store.disk.disk;
   closed = now.store.closed;
   store = start_of d i now.store;
 }
 
--- the party keeps its promise of what it received and sent, from these writes on; and each group that
--- it took is answered, and all stamps are below what its seat has seen
+-- the party keeps its promise of what it received and sent, from these writes on, with all gaps of its
+-- seat unless the counter was lifted through it from outside; and each group that it took is answered,
+-- and all stamps are below what its seat has seen
 pub record Holds {D I F : Type 0} (d : disks.Ghosts D) (i : indexes.Ghosts I)
     (start sessions : ℕ) (first now : WorkerView D I) (ends : Ends (Answer F) (Ask F) 8)
-    (connections : List (Connection F)) (view : View) (raised : Bool) (before : List Write) :
+    (connections : List (Connection F)) (view : View) (lifted : Bool) (before : List Write) :
     Type 0 where
+  pub gaps : List Range
+  pub gaps_are : lifted ≡ false → gaps ≡ view.gaps
   pub promise : WorkerPromise d (setting_of d.tells start sessions first.store.workers
       first.store.limits.slots) first.store.worker before (received_from ends)
-      (answers_to ends connections) (data_of d i first now view raised)
+      (answers_to ends connections) (data_of d i first now view gaps)
   pub paired : (session : ℕ) → session < sessions
       → length (answered_in (answers_to ends connections session))
       ≡ length (groups_in (promise.taken session))
@@ -103,11 +106,11 @@ pub record Holds {D I F : Type 0} (d : disks.Ghosts D) (i : indexes.Ghosts I)
 -- of each key the value after a prefix of its writes, which holds all that was answered before
 pub record GoesOn {D I F : Type 0} (d : disks.Ghosts D) (i : indexes.Ghosts I)
     (start sessions : ℕ) (first old now : WorkerView D I) (ends new : Ends (Answer F) (Ask F) 8)
-    (connections after : List (Connection F)) (view later : View) (raised : Bool)
+    (connections after : List (Connection F)) (view later : View) (lifted : Bool)
     (before : List Write)
-    (h : Holds d i start sessions first old ends connections view raised before) :
+    (h : Holds d i start sessions first old ends connections view lifted before) :
     Type 0 where
-  pub holds : Holds d i start sessions first now new after later raised before
+  pub holds : Holds d i start sessions first now new after later lifted before
   pub more : List Done
   pub longer : holds.promise.groups.history ≡ h.promise.groups.history ++ more
   pub moments : LeavesOnly (d.calls old.store.disk.disk) (d.calls now.store.disk.disk)
@@ -122,6 +125,6 @@ abbrev pub StoodAndGoesOn : {D I F : Type 0} → disks.Ghosts D → indexes.Ghos
     → WorkerView D I → WorkerView D I → WorkerView D I → Ends (Answer F) (Ask F) 8
     → Ends (Answer F) (Ask F) 8 → List (Connection F) → List (Connection F) → View → View → Bool
     → List Write → Type 0
-StoodAndGoesOn d i start sessions first old now ends new connections after view later raised before =
-    (h : Holds d i start sessions first old ends connections view raised before)
-    × GoesOn d i start sessions first old now ends new connections after view later raised before h
+StoodAndGoesOn d i start sessions first old now ends new connections after view later lifted before =
+    (h : Holds d i start sessions first old ends connections view lifted before)
+    × GoesOn d i start sessions first old now ends new connections after view later lifted before h

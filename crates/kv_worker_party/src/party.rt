@@ -46,7 +46,7 @@ pub struct WorkerParty<D: Disk, I: Index, F> {
     batch: Batch,
     seat: StampSeat,
     first: Snapshot<Worker<D, I>>,
-    raised: bool,
+    lifted: bool,
     alloc: Global,
     ghost number_is: { number ≡ worker.store.worker },
     ghost workers_is: { workers ≡ worker.store.workers },
@@ -63,7 +63,7 @@ pub struct WorkerParty<D: Disk, I: Index, F> {
     pub ghost promise: { (before : List Write)
         → BeginsWith D.Disk I.Index first.value before (seat.view.start - 1)
         → ∥ Holds D.Disk I.Index seat.view.start (peers ends) first.value worker ends
-        connections.items seat.view raised before ∥₁ },
+        connections.items seat.view lifted before ∥₁ },
 }
 
 // As many connections, with nothing in hand.
@@ -111,7 +111,7 @@ impl<D: Disk + Drop, I: Index + Drop, F: Drop> WorkerParty<D, I, F> {
         requires ahead { parts.worker.highest < parts.seat.view.seen }
         ensures ok { IfOk result (λ party. (party.worker ≡ parts.worker)
             × (party.ends ≡ parts.ends) × (party.seat ≡ parts.seat)
-            × (party.first.value ≡ parts.worker) × (party.raised ≡ false)) }
+            × (party.first.value ≡ parts.worker) × (party.lifted ≡ false)) }
         ensures err { IfErr result (λ refused. refused.0 ≡ parts) }
     {
         let batch = match Batch::with_room(alloc, MOST_TASKS) {
@@ -133,7 +133,7 @@ impl<D: Disk + Drop, I: Index + Drop, F: Drop> WorkerParty<D, I, F> {
             batch,
             seat,
             first,
-            raised: false,
+            lifted: false,
             alloc,
         })
     }
@@ -152,10 +152,10 @@ impl<D: Disk + Drop, I: Index + Drop, F: Drop> WorkerParty<D, I, F> {
             → ∥ StoodAndGoesOn ⟦<D as Disk>⟧ ⟦<I as Index>⟧ self.old.seat.view.start
             (peers self.old.ends) self.old.first.value self.old.worker self.new.worker
             self.old.ends self.new.ends self.old.connections.items self.new.connections.items
-            self.old.seat.view self.new.seat.view self.old.raised before ∥₁ }
+            self.old.seat.view self.new.seat.view self.old.lifted before ∥₁ }
         ensures counter { self.new.seat.counter ≡ self.old.seat.counter }
         ensures first { (self.new.first.value ≡ self.old.first.value)
-            × (self.new.raised ≡ self.old.raised) }
+            × (self.new.lifted ≡ self.old.lifted) }
     {
         // By these laws the promise goes on.
         party_laws();
@@ -182,7 +182,7 @@ impl<D: Disk + Drop, I: Index + Drop, F: Drop> WorkerParty<D, I, F> {
             × (self.new.connections ≡ self.old.connections)
             × (self.new.first.value ≡ self.old.first.value) }
     {
-        self.raised = true;
+        self.lifted = true;
         stamps.raise(&mut self.seat, to);
     }
 
@@ -196,7 +196,7 @@ impl<D: Disk + Drop, I: Index + Drop, F: Drop> WorkerParty<D, I, F> {
         ensures kept { (self.new.worker ≡ self.old.worker) × (self.new.ends ≡ self.old.ends)
             × (self.new.connections ≡ self.old.connections)
             × (self.new.first.value ≡ self.old.first.value)
-            × (self.new.raised ≡ self.old.raised) }
+            × (self.new.lifted ≡ self.old.lifted) }
     {
         stamps.look(&mut self.seat)
     }
@@ -215,7 +215,7 @@ impl<D: Disk + Drop, I: Index + Drop, F: Drop> WorkerParty<D, I, F> {
             batch: _,
             seat,
             first: _,
-            raised: _,
+            lifted: _,
             alloc: _,
         } = self;
         WorkerParts { worker, ends, seat }
@@ -230,7 +230,7 @@ impl<D: Disk + Drop, I: Index + Drop, F: Drop> WorkerSide<F> for WorkerParty<D, 
 
     ghost Stays = { λ old new. (new.worker ≡ old.worker) × (new.seat ≡ old.seat)
         × (new.connections ≡ old.connections) × (new.first.value ≡ old.first.value)
-        × (new.raised ≡ old.raised) };
+        × (new.lifted ≡ old.lifted) };
 
     fn left_beside(&mut self, session_ends: &mut SessionEnds<F>, session: u32, worker: u32) -> u32 {
         left_between(session_ends, session, &mut self.ends, worker)

@@ -24,7 +24,7 @@ invariant_of-self g c =
       ahead = λ open_. let a = old.ahead open_ in omega (arith, a, stays.up);
       gone = old.gone;
       promise = later-promise g.D.Disk g.I.Index old.first.value old.worker old.ends
-          old.connections.items old.seat.view c.look.new.seat.view old.raised old.raised (record {
+          old.connections.items old.seat.view c.look.new.seat.view old.lifted old.lifted (record {
             stays = stays;
             spent = ap (λ x. x.spent) v.2.view;
             gaps = λ is. (is, ap (λ x. x.gaps) v.2.view);

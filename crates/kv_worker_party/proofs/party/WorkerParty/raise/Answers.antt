@@ -24,7 +24,7 @@ invariant_of-self g c =
       ahead = λ open_. let a = old.ahead open_ in omega (arith, a, stays.up);
       gone = old.gone;
       promise = later-promise g.D.Disk g.I.Index old.first.value old.worker old.ends
-          old.connections.items old.seat.view c.raise.new.seat.view old.raised true (record {
+          old.connections.items old.seat.view c.raise.new.seat.view old.lifted true (record {
             stays = stays;
             spent = ap (λ x. x.spent) v.1.view;
             gaps = λ is. absurd (true≢false is);

@@ -8,7 +8,7 @@ returns-clause-goes_on g c =
     let old = c.args.self.now in
     goes-from c.party_laws.ensures g.D.Disk g.I.Index old.first.value old.worker
     c.exchange.new.worker old.ends c.exchange.new.ends old.connections.items
-    c.exchange.new.connections.items old.seat.view c.exchange.new.seat.view old.raised
+    c.exchange.new.connections.items old.seat.view c.exchange.new.seat.view old.lifted
     c.exchange.result old.started old.promise c.exchange.ensures.turned
 
 pub invariant_of-self : goal.invariant_of-self
@@ -34,6 +34,6 @@ invariant_of-self g c =
           c.exchange.new.seat.view c.exchange.result t old.gone;
       promise = goes-on c.party_laws.ensures g.D.Disk g.I.Index old.first.value old.worker
           c.exchange.new.worker old.ends c.exchange.new.ends old.connections.items
-          c.exchange.new.connections.items old.seat.view c.exchange.new.seat.view old.raised
+          c.exchange.new.connections.items old.seat.view c.exchange.new.seat.view old.lifted
           c.exchange.result old.started old.promise t stays.start;
     }

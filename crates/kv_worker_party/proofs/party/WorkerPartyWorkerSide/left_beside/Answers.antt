@@ -22,7 +22,7 @@ invariant_of-self g c =
           ∙ ap has_bye (sym (looked.received s));
       promise = λ before begins. looked-promise g.D.Disk g.I.Index old.seat.view.start
           old.first.value old.worker old.ends c.left_between.new.worker_ends c.args.session
-          old.connections.items old.seat.view old.raised before looked (old.promise before begins);
+          old.connections.items old.seat.view old.lifted before looked (old.promise before begins);
     }
 
 pub returns-clause-compared : goal.returns-clause-compared

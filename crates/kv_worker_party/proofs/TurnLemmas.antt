@@ -30,7 +30,7 @@ use Rattle.kv_model.specs.Layout.{all_classes}
 use Rattle.kv_model.specs.Pairs.{Pair, pairs_in, stamps, writes, unsure_writes, key_of}
 use Rattle.kv_model.specs.Pairwise.{Pairwise}
 use Rattle.kv_model.specs.Recovery.{RecoversPrefix}
-use Rattle.kv_parties.specs.Causes.{all_writes}
+use Rattle.kv_parties.specs.Causes.{KeepsCauses, all_writes}
 use Rattle.kv_parties.specs.Groups.{Asked, IsAnsweredBy, Answers}
 use Rattle.kv_parties.specs.Messages.{groups_in, answered_in, all_asking, group_of, asking}
 use Rattle.kv_parties.specs.Messages.{answered_of, task_pairs, IsPartOf, IsReplied, IsWhole}
@@ -350,14 +350,14 @@ holds-turn {D = D} {I = I} {F = F} laws d i start sessions first old now ends ne
       length-map items (λ (i : ℕ × Task). i.1.request),
       t.few,
     ) in
-    let causes = causes-push d setting old now view later before (d.faults first.store.disk.disk)
+    let causes : KeepsCauses setting before later.spent (d.faults first.store.disk.disk)
+    (d.faults now.store.disk.disk) now.store.closed (batches ++ group ∷ []) = causes-push d setting old now view later before (d.faults first.store.disk.disk)
     batches group refl refl h.promise.causes few
     (subst (λ ps. BatchCauses d first.store.limits.slots old now view later before ps group)
     (sym h.promise.same)
     (served-batch laws d i before pairs first.store.limits.slots old now t.seen view later requests
     t.replies (ap (λ (l : Limits). l.slots) h.same.2)
-    (λ base up is_open. subst (λ ps. FollowsHistory d.tells (before ++ writes ps) (base - 1)
-    (start_of d i old.store)) refl (follows is_open (base - 1) (omega (arith, above.0, above.1, up))))
+    (λ base up is_open. follows is_open (base - 1) (omega (arith, above.0, above.1, up)))
     t.served)) in
     let counted = served-counted d i old now t.seen view later requests t.replies
     (omega (arith, length-map items (λ (i : ℕ × Task). i.1.request), t.few)) t.served in

@@ -1,4 +1,4 @@
-ghost use Rattle.std.specs.Prelude.{◌≡◌, ◌≤◌, ◌<◌, All};
+ghost use Rattle.std.specs.Prelude.{◌≡◌, ◌-◌, ◌^◌, ◌<◌, false, All, IfOk};
 ghost use Rattle.kv_ring.specs.Ends.{peers};
 
 use crate::party::{WorkerParts, WorkerParty};
@@ -12,29 +12,38 @@ use kv_worker::Worker;
 use std::alloc::Global;
 use std::test::Fail;
 
+// What a step of a test does.
 const PUT: u8 = 1;
 
 const GET: u8 = 2;
 
-const DELETE: u8 = 3;
+const BYE: u8 = 3;
 
-const MOVED: u8 = 1;
+const TURN: u8 = 4;
 
-const IDLE: u8 = 2;
+const HEAR: u8 = 5;
 
-const ENDED: u8 = 3;
+// What comes of it.
+const SENT: (u8, u64) = (1, 0);
 
-const STORED: u8 = 1;
+const MOVED: (u8, u64) = (2, 0);
 
-const FOUND: u8 = 2;
+const IDLE: (u8, u64) = (3, 0);
 
-const MISSING: u8 = 3;
+const ENDED: (u8, u64) = (4, 0);
 
-const CLOSED: u8 = 4;
+const NOTHING: (u8, u64) = (5, 0);
 
-const UNSURE: u8 = 5;
+const STORED: u8 = 6;
+
+const FOUND: u8 = 7;
+
+const MISSING: u8 = 8;
 
 const OTHER: u8 = 9;
+
+// What is done, of which session, and what that session had seen.
+type Step = (u8, usize, u64);
 
 // The worker 0 of 1 as a party, and the ends of its sessions.
 #[derive(Drop)]
@@ -46,8 +55,13 @@ struct Bench {
     ghost one: { All (λ ends. peers ends ≡ 1) sessions.items },
 }
 
-fn worker_over(alloc: Global, failing: &[u32]) -> Result<Worker<MemDisk, FlatIndex>, Fail> {
-    let disk = MemDisk::new(alloc, 64, 512, Calls::of(alloc, failing)?)?;
+fn worker_over(alloc: Global) -> Result<Worker<MemDisk, FlatIndex>, Fail>
+    ensures open { IfOk result (λ worker. worker.store.closed ≡ false) }
+    ensures number { IfOk result (λ worker. (worker.store.worker ≡ 0)
+        × (worker.store.workers ≡ 1)) }
+    ensures highest { IfOk result (λ worker. worker.highest < 2 ^ 62 - 1) }
+{
+    let disk = MemDisk::new(alloc, 64, 512, Calls::none())?;
     let limits = Limits {
         slots: 64,
         cache: 4,
@@ -61,12 +75,10 @@ fn worker_over(alloc: Global, failing: &[u32]) -> Result<Worker<MemDisk, FlatInd
     }
 }
 
-fn open_bench(alloc: Global, sessions: u32, failing: &[u32]) -> Result<Bench, Fail>
-    requires { (1 ≤ sessions) × (sessions ≤ 8) }
-{
-    let worker = worker_over(alloc, failing)?;
+fn open_bench(alloc: Global) -> Result<Bench, Fail> {
+    let worker = worker_over(alloc)?;
     let (stamps, mut seats) = Stamps::new(alloc, worker.highest() + 1, 1)?;
-    let (sessions, mut workers) = mesh(alloc, sessions, 1)?;
+    let (sessions, mut workers) = mesh(alloc, 2, 1)?;
     let (Some(ends), Some(seat)) = (workers.pop(), seats.pop()) else {
         return Err(Fail::new("there is one of each"));
     };
@@ -81,25 +93,26 @@ fn open_bench(alloc: Global, sessions: u32, failing: &[u32]) -> Result<Bench, Fa
     }
 }
 
-fn request(alloc: Global, kind: u8, key: &[u8], value: &[u8]) -> Result<Request, Fail> {
-    let key = Bytes::copy(alloc, key)?;
+// A put of the key a, or else a get of it.
+fn request(alloc: Global, kind: u8) -> Result<Request, Fail> {
+    let key = Bytes::copy(alloc, b"a")?;
     if kind == PUT {
         return Ok(Request::Put {
             key,
-            value: Bytes::copy(alloc, value)?,
+            value: Bytes::copy(alloc, b"1")?,
         });
     }
-    if kind == GET {
-        return Ok(Request::Get { key });
-    }
-    Ok(Request::Delete { key })
+    Ok(Request::Get { key })
 }
 
-// A group of one request.
-fn group(alloc: Global, seen: u64, kind: u8, key: &[u8], value: &[u8]) -> Result<Ask<u64>, Fail> {
+// A farewell, or a group of one request.
+fn message(alloc: Global, kind: u8, seen: u64) -> Result<Ask<u64>, Fail> {
+    if kind == BYE {
+        return Ok(Ask::Bye);
+    }
     let mut tasks = ReservedList::with_room(alloc, 1)?;
     let task = Task {
-        request: request(alloc, kind, key, value)?,
+        request: request(alloc, kind)?,
         reply: None,
     };
     match tasks.append(task) {
@@ -113,21 +126,22 @@ fn told(reply: &Reply) -> (u8, u64) {
         Reply::Stored { stamp } => (STORED, *stamp),
         Reply::Found { stamp, .. } => (FOUND, *stamp),
         Reply::Missing { stamp } => (MISSING, *stamp),
-        Reply::Closed => (CLOSED, 0),
-        Reply::Unsure { stamp } => (UNSURE, *stamp),
         _ => (OTHER, 0),
     }
 }
 
 impl Bench {
-    fn send(&mut self, session: usize, ask: Ask<u64>) -> bool {
+    fn send(&mut self, session: usize, ask: Ask<u64>) -> (u8, u64) {
         if session >= self.sessions.len() {
-            return false;
+            return NOTHING;
         }
-        self.sessions[session].push(0, ask).is_ok()
+        match self.sessions[session].push(0, ask) {
+            Ok(()) => SENT,
+            Err(_) => NOTHING,
+        }
     }
 
-    fn turn(&mut self) -> u8 {
+    fn turn(&mut self) -> (u8, u64) {
         match self.party.turn(&self.stamps) {
             Turn::Moved => MOVED,
             Turn::Idle => IDLE,
@@ -136,9 +150,9 @@ impl Bench {
     }
 
     // The kind and the stamp of the one reply in the next answer, if one came.
-    fn hear(&mut self, session: usize) -> Option<(u8, u64)> {
+    fn hear(&mut self, session: usize) -> (u8, u64) {
         if session >= self.sessions.len() {
-            return None;
+            return NOTHING;
         }
         match self.sessions[session].pop(0) {
             Some(Answer::Group { tasks }) => match tasks.as_slice() {
@@ -147,61 +161,120 @@ impl Bench {
                         reply: Some(reply),
                         ..
                     },
-                ] => Some(told(reply)),
-                _ => None,
+                ] => told(reply),
+                _ => NOTHING,
             },
-            _ => None,
+            _ => NOTHING,
         }
     }
 }
 
+fn go(alloc: Global, bench: &mut Bench, step: Step) -> Result<(u8, u64), Fail> {
+    let (kind, session, seen) = step;
+    if kind == TURN {
+        return Ok(bench.turn());
+    }
+    if kind == HEAR {
+        return Ok(bench.hear(session));
+    }
+    let ask = message(alloc, kind, seen)?;
+    Ok(bench.send(session, ask))
+}
+
+fn go_all(alloc: Global, bench: &mut Bench, steps: &[Step]) -> Result<Vec<(u8, u64)>, Fail> {
+    let mut all = Vec::new(alloc);
+    for step in steps {
+        all.push(go(alloc, bench, *step)?)?;
+    }
+    Ok(all)
+}
+
+// What comes of each step, with a worker over a new disk and two sessions.
+fn outcome(alloc: Global, steps: &[Step]) -> Result<Vec<(u8, u64)>, Fail> {
+    let mut bench = open_bench(alloc)?;
+    go_all(alloc, &mut bench, steps)
+}
+
 #[test]
 fn the_groups_of_all_sessions_are_one_batch_in_their_order(rt: HostRuntime) -> Result<(), Fail> {
-    let alloc = rt.alloc();
-    let mut bench = open_bench(alloc, 2, &[])?;
-    assert_eq!(rt; bench.turn(), IDLE);
-    assert!(rt; bench.send(1, group(alloc, 0, GET, b"a", b"")?));
-    assert!(rt; bench.send(0, group(alloc, 0, PUT, b"a", b"1")?));
-    assert_eq!(rt; bench.turn(), MOVED);
-    assert_eq!(rt; bench.hear(0), Some((STORED, 1)));
-    assert_eq!(rt; bench.hear(1), Some((FOUND, 2)));
-    assert_eq!(rt; bench.turn(), IDLE);
-    assert!(rt; bench.send(0, Ask::Bye));
-    assert_eq!(rt; bench.turn(), MOVED);
-    assert!(rt; bench.send(1, Ask::Bye));
-    assert_eq!(rt; bench.turn(), ENDED);
-    assert_eq!(rt; bench.turn(), ENDED);
+    let steps = [
+        (TURN, 0, 0),
+        (GET, 1, 0),
+        (PUT, 0, 0),
+        (TURN, 0, 0),
+        (HEAR, 0, 0),
+        (HEAR, 1, 0),
+        (TURN, 0, 0),
+        (BYE, 0, 0),
+        (TURN, 0, 0),
+        (BYE, 1, 0),
+        (TURN, 0, 0),
+    ];
+    let wanted = [
+        IDLE,
+        SENT,
+        SENT,
+        MOVED,
+        (STORED, 1),
+        (FOUND, 2),
+        IDLE,
+        SENT,
+        MOVED,
+        SENT,
+        ENDED,
+    ];
+    assert_eq!(rt; outcome(rt.alloc(), &steps)?.as_slice(), wanted.as_slice());
     Ok(())
 }
 
 #[test]
 fn stamps_are_above_what_a_session_had_seen(rt: HostRuntime) -> Result<(), Fail> {
-    let alloc = rt.alloc();
-    let mut bench = open_bench(alloc, 2, &[])?;
-    assert!(rt; bench.send(0, group(alloc, 0, GET, b"a", b"")?));
-    assert!(rt; bench.send(1, group(alloc, 40, DELETE, b"a", b"")?));
-    assert_eq!(rt; bench.turn(), MOVED);
     // The greatest that was seen is 40: the batch begins at 41.
-    assert_eq!(rt; bench.hear(0), Some((MISSING, 41)));
-    assert_eq!(rt; bench.hear(1), Some((OTHER, 0)));
+    let steps = [
+        (GET, 0, 0),
+        (GET, 1, 40),
+        (TURN, 0, 0),
+        (HEAR, 0, 0),
+        (HEAR, 1, 0),
+    ];
+    let wanted = [SENT, SENT, MOVED, (MISSING, 41), (MISSING, 42)];
+    assert_eq!(rt; outcome(rt.alloc(), &steps)?.as_slice(), wanted.as_slice());
     Ok(())
 }
 
 #[test]
 fn an_answer_waits_for_a_place_in_its_ring(rt: HostRuntime) -> Result<(), Fail> {
-    let alloc = rt.alloc();
-    let mut bench = open_bench(alloc, 1, &[])?;
-    for _group in 0..3 {
-        assert!(rt; bench.send(0, group(alloc, 0, GET, b"a", b"")?));
-        assert_eq!(rt; bench.turn(), MOVED);
-    }
-    // The third waits; while it does, a turn isn't idle, and no group is taken.
-    assert_eq!(rt; bench.turn(), MOVED);
-    assert_eq!(rt; bench.hear(0), Some((MISSING, 1)));
-    assert_eq!(rt; bench.turn(), MOVED);
-    assert_eq!(rt; bench.turn(), IDLE);
-    assert_eq!(rt; bench.hear(0), Some((MISSING, 2)));
-    assert_eq!(rt; bench.hear(0), Some((MISSING, 3)));
-    assert_eq!(rt; bench.hear(0), None);
+    // Of three answers the third waits; while it does, a turn isn't idle.
+    let steps = [
+        (GET, 0, 0),
+        (TURN, 0, 0),
+        (GET, 0, 0),
+        (TURN, 0, 0),
+        (GET, 0, 0),
+        (TURN, 0, 0),
+        (TURN, 0, 0),
+        (HEAR, 0, 0),
+        (TURN, 0, 0),
+        (TURN, 0, 0),
+        (HEAR, 0, 0),
+        (HEAR, 0, 0),
+        (HEAR, 0, 0),
+    ];
+    let wanted = [
+        SENT,
+        MOVED,
+        SENT,
+        MOVED,
+        SENT,
+        MOVED,
+        MOVED,
+        (MISSING, 1),
+        MOVED,
+        IDLE,
+        (MISSING, 2),
+        (MISSING, 3),
+        NOTHING,
+    ];
+    assert_eq!(rt; outcome(rt.alloc(), &steps)?.as_slice(), wanted.as_slice());
     Ok(())
 }

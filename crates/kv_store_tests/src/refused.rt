@@ -1,0 +1,88 @@
+use crate::asked::Outcome;
+use crate::cases::{Case, Turn, cases};
+use crate::opened::is_left;
+use crate::plain::{is_told, read};
+use crate::run::{begin, calls_behind, limits_of, open_case};
+use crate::store::{answers, try_open};
+use kv_base::Calls;
+use kv_disk::MemDisk;
+use kv_recover::OpenFault;
+use std::alloc::Global;
+use std::test::Fail;
+
+// The disk behind the first batch of the case, of which a write or a sync fails, so that pages wait.
+fn unsure(alloc: Global, case: &Case, turn: &Turn, failing: &[u32]) -> Result<MemDisk, Fail> {
+    let mut worker = begin(alloc, case, 0, Calls::of(alloc, failing)?)?;
+    if !answers(alloc, &mut worker, turn.rows, Outcome::Failed)? {
+        return Err("another reply".into());
+    }
+    Ok(worker.into_disk())
+}
+
+// Whether the disk reads as before, and a crash leaves each key its value before the batch or behind
+// it.
+fn stands(alloc: Global, case: &Case, disk: &MemDisk, before: &MemDisk) -> Result<bool, Fail> {
+    let plain = read(alloc, before, case.keys)?;
+    let after = read(alloc, disk, case.keys)?;
+    if !is_told(&after, &plain.values, plain.floor) {
+        return Ok(false);
+    }
+    for bits in [0, 1, 2, 31] {
+        if !is_left(alloc, case, disk, disk.calls(), bits, (0, 1))? {
+            return Ok(false);
+        }
+    }
+    Ok(true)
+}
+
+// Whether an opening of which this call fails is refused, and leaves what was there.
+fn is_refused(
+    alloc: Global,
+    case: &Case,
+    turn: &Turn,
+    failed: u32,
+    call: u32,
+) -> Result<bool, Fail> {
+    let before = unsure(alloc, case, turn, &[failed])?;
+    let disk = unsure(alloc, case, turn, &[failed, call])?;
+    match try_open(alloc, disk, limits_of(case)) {
+        Err((disk, OpenFault::DiskFault)) => stands(alloc, case, &disk, &before),
+        _ => Ok(false),
+    }
+}
+
+// Whether each call of an opening behind this failed call is refused where it fails.
+fn are_refused(alloc: Global, case: &Case, turn: &Turn, failed: u32) -> Result<bool, Fail> {
+    let disk = unsure(alloc, case, turn, &[failed])?;
+    let from = disk.calls();
+    let to = open_case(alloc, case, disk)?.into_disk().calls();
+    for call in from..to {
+        if !is_refused(alloc, case, turn, failed, call.saturating_add(1))? {
+            return Ok(false);
+        }
+    }
+    Ok(from < to)
+}
+
+// Whether the openings behind each failed write or sync of the case's first batch go well.
+fn all_refused(alloc: Global, case: &Case, turn: &Turn) -> Result<bool, Fail> {
+    let from = calls_behind(alloc, case, 0)?;
+    for call in turn.reads..turn.calls {
+        let failed = from.saturating_add(call).saturating_add(1);
+        if !are_refused(alloc, case, turn, failed)? {
+            return Ok(false);
+        }
+    }
+    Ok(true)
+}
+
+#[test]
+fn a_failed_call_of_an_opening_leaves_what_was_there(rt: HostRuntime) -> Result<(), Fail> {
+    let alloc = rt.alloc();
+    for case in cases() {
+        for turn in case.turns.iter().take(1) {
+            assert!(rt; all_refused(alloc, case, turn)?, "{}", case.why);
+        }
+    }
+    Ok(())
+}

@@ -32,7 +32,7 @@ pub struct Case {
 
 // Right behind the opening no page is kept. A page of small slots is read before it is written, but
 // a page of its own isn't. New items are written first and synced, then tombstones.
-static CASES: [Case; 10] = [
+static MOVES: [Case; 3] = [
     Case {
         why: "a grows from class 1 to 2",
         slots: 9,
@@ -75,6 +75,14 @@ static CASES: [Case; 10] = [
         }],
         keys: &[Held(b"a", &[(1, 5_000), (2, 5_001)])],
     },
+];
+
+/// One key moves.
+pub fn moves() -> &'static [Case] {
+    &MOVES
+}
+
+static ITEMS: [Case; 3] = [
     Case {
         why: "a new item of class 9 has four pages",
         slots: 9,
@@ -121,6 +129,14 @@ static CASES: [Case; 10] = [
         }],
         keys: &[Held(b"a", &[(1, 47), (0, 0)])],
     },
+];
+
+/// Keys come and go.
+pub fn items() -> &'static [Case] {
+    &ITEMS
+}
+
+static PLANS: [Case; 2] = [
     Case {
         why: "a moves and b is deleted, which stand on one page",
         slots: 9,
@@ -171,6 +187,14 @@ static CASES: [Case; 10] = [
             Held(b"e", &[(0, 0), (8, 200)]),
         ],
     },
+];
+
+/// Several changes at once.
+pub fn plans() -> &'static [Case] {
+    &PLANS
+}
+
+static TURNS: [Case; 2] = [
     Case {
         why: "a grows from class 1 to 2, and the next batch deletes it",
         slots: 9,
@@ -221,7 +245,7 @@ static CASES: [Case; 10] = [
     },
 ];
 
-/// The cases.
-pub fn cases() -> &'static [Case] {
-    &CASES
+/// A batch behind another, and one that finds its class full.
+pub fn turns() -> &'static [Case] {
+    &TURNS
 }

@@ -1,11 +1,18 @@
 use crate::asked::{Outcome, Told};
-use crate::cases::{Case, Turn, cases};
-use crate::opened::is_left;
+use crate::cases::{Case, Turn, items, moves, plans, turns};
+use crate::opened::{CHOSEN, is_left};
 use crate::run::{are_of, begin, calls_behind, values};
 use crate::store::{Store, answers};
 use kv_base::Calls;
+use kv_disk::MemDisk;
 use std::alloc::Global;
 use std::test::Fail;
+
+// Whether the keys of the case have their values behind so many batches.
+fn has_values(alloc: Global, case: &Case, worker: &mut Store, count: usize) -> Result<bool, Fail> {
+    let found = values(alloc, worker, case.keys)?;
+    Ok(are_of(&found, case.keys, count, count))
+}
 
 // Whether a failed read refuses the batch and leaves the store as it was, and the batch can come
 // again.
@@ -13,49 +20,66 @@ fn is_refused(
     alloc: Global,
     case: &Case,
     turn: &Turn,
-    before: usize,
-    behind: usize,
-    worker: &mut Store,
-) -> Result<bool, Fail> {
-    let refused = Outcome::Refused(Told::DiskFault);
-    if !answers(alloc, worker, turn.rows, refused)? || worker.closed() {
-        return Ok(false);
-    }
-    let kept = values(alloc, worker, case.keys)?;
-    if !are_of(&kept, case.keys, before, before) {
-        return Ok(false);
-    }
-    if !answers(alloc, worker, turn.rows, Outcome::Done)? {
-        return Ok(false);
-    }
-    let changed = values(alloc, worker, case.keys)?;
-    Ok(are_of(&changed, case.keys, behind, behind))
-}
-
-// Whether a failed write or sync closes the worker, and leaves each key its old or its new value.
-fn is_closed(
-    alloc: Global,
-    case: &Case,
-    turn: &Turn,
-    before: usize,
-    behind: usize,
+    batches: (usize, usize),
     worker: Store,
 ) -> Result<bool, Fail> {
     let mut worker = worker;
-    if !answers(alloc, &mut worker, turn.rows, Outcome::Failed)? || !worker.closed() {
-        return Ok(false);
-    }
+    let refused = Outcome::Refused(Told::DiskFault);
+    Ok(
+        answers(alloc, &mut worker, turn.rows, refused)?
+            && !worker.closed()
+            && has_values(alloc, case, &mut worker, batches.0)?
+            && answers(alloc, &mut worker, turn.rows, Outcome::Done)?
+            && has_values(alloc, case, &mut worker, batches.1)?,
+    )
+}
+
+// The disk of a worker that a failed write or sync of the batch closes.
+fn closed_disk(alloc: Global, turn: &Turn, worker: Store) -> Result<Option<MemDisk>, Fail> {
+    let mut worker = worker;
     let closed = Outcome::Refused(Told::Closed);
-    if !answers(alloc, &mut worker, turn.rows, closed)? {
-        return Ok(false);
-    }
+    let well = answers(alloc, &mut worker, turn.rows, Outcome::Failed)?
+        && worker.closed()
+        && answers(alloc, &mut worker, turn.rows, closed)?;
     let disk = worker.into_disk();
-    for bits in 0..32 {
-        if !is_left(alloc, case, &disk, disk.calls(), bits, (before, behind))? {
+    Ok(if well { Some(disk) } else { None })
+}
+
+// Whether a crash leaves each key its old or its new value, whatever it leaves of the waiting pages,
+// of which there are so many at most.
+fn leaves_values(
+    alloc: Global,
+    case: &Case,
+    batches: (usize, usize),
+    disk: &MemDisk,
+    waiting: u32,
+) -> Result<bool, Fail> {
+    for bits in 0..1 << waiting.min(CHOSEN) {
+        if !is_left(alloc, case, disk, disk.calls(), bits, batches)? {
             return Ok(false);
         }
     }
     Ok(true)
+}
+
+// Whether the batch goes as it should where this one of its calls fails.
+fn fails_so(
+    alloc: Global,
+    case: &Case,
+    turn: &Turn,
+    batches: (usize, usize),
+    call: u32,
+) -> Result<bool, Fail> {
+    let from = calls_behind(alloc, case, batches.0)?;
+    let failing = Calls::of(alloc, &[from.saturating_add(call).saturating_add(1)])?;
+    let worker = begin(alloc, case, batches.0, failing)?;
+    if call < turn.reads {
+        return is_refused(alloc, case, turn, batches, worker);
+    }
+    match closed_disk(alloc, turn, worker)? {
+        Some(disk) => leaves_values(alloc, case, batches, &disk, call - turn.reads + 1),
+        None => Ok(false),
+    }
 }
 
 // Whether each call of the batch fails as it should.
@@ -63,33 +87,56 @@ fn fails_well(
     alloc: Global,
     case: &Case,
     turn: &Turn,
-    before: usize,
-    behind: usize,
+    batches: (usize, usize),
 ) -> Result<bool, Fail> {
-    let from = calls_behind(alloc, case, before)?;
     for call in 0..turn.calls {
-        let failing = Calls::of(alloc, &[from.saturating_add(call).saturating_add(1)])?;
-        let mut worker = begin(alloc, case, before, failing)?;
-        let well = if call < turn.reads {
-            is_refused(alloc, case, turn, before, behind, &mut worker)?
-        } else {
-            is_closed(alloc, case, turn, before, behind, worker)?
-        };
-        if !well {
+        if !fails_so(alloc, case, turn, batches, call)? {
             return Ok(false);
         }
     }
     Ok(true)
 }
 
-#[test]
-fn a_failed_read_refuses_the_batch_and_a_failed_write_closes(rt: HostRuntime) -> Result<(), Fail> {
-    let alloc = rt.alloc();
-    for case in cases() {
-        for number in 0..case.turns.len() {
-            let well = fails_well(alloc, case, &case.turns[number], number, number + 1)?;
-            assert!(rt; well, "{}", case.why);
+// Whether each batch of the case fails as it should.
+fn all_fail_well(alloc: Global, case: &Case) -> Result<bool, Fail> {
+    for number in 0..case.turns.len() {
+        if !fails_well(alloc, case, &case.turns[number], (number, number + 1))? {
+            return Ok(false);
         }
     }
+    Ok(true)
+}
+
+// The first of the cases that doesn't.
+fn first_wrong(alloc: Global, cases: &'static [Case]) -> Result<Option<&'static str>, Fail> {
+    for case in cases {
+        if !all_fail_well(alloc, case)? {
+            return Ok(Some(case.why));
+        }
+    }
+    Ok(None)
+}
+
+#[test]
+fn a_failed_call_of_a_move_refuses_or_closes(rt: HostRuntime) -> Result<(), Fail> {
+    assert_eq!(rt; first_wrong(rt.alloc(), moves())?, None);
+    Ok(())
+}
+
+#[test]
+fn a_failed_call_of_a_put_or_a_delete_refuses_or_closes(rt: HostRuntime) -> Result<(), Fail> {
+    assert_eq!(rt; first_wrong(rt.alloc(), items())?, None);
+    Ok(())
+}
+
+#[test]
+fn a_failed_call_of_several_changes_refuses_or_closes(rt: HostRuntime) -> Result<(), Fail> {
+    assert_eq!(rt; first_wrong(rt.alloc(), plans())?, None);
+    Ok(())
+}
+
+#[test]
+fn a_failed_call_of_each_batch_refuses_or_closes(rt: HostRuntime) -> Result<(), Fail> {
+    assert_eq!(rt; first_wrong(rt.alloc(), turns())?, None);
     Ok(())
 }

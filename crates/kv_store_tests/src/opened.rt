@@ -89,16 +89,9 @@ fn are_same(disk: &MemDisk, other: &MemDisk) -> bool {
     true
 }
 
-// Whether the call behind this moment changes nothing of what a crash may leave that wasn't left
-// before: it reads, or makes durable what was written.
-fn is_quiet(disk: &MemDisk, moment: u32) -> Result<bool, Fail> {
-    let before = left(disk, moment, 31)?;
-    let behind = left(disk, moment.saturating_add(1), 31)?;
-    Ok(are_same(&before, &behind))
-}
-
-/// Opens what a crash leaves, and stops that behind each of its writes. Whether what is left then
-/// opens with what the plain reader found before.
+/// Opens what a crash leaves, and stops that at each of its calls from its first write on: up to
+/// there nothing has changed. Whether what is left then opens with what the plain reader found
+/// before.
 pub fn opens_again(
     alloc: Global,
     case: &Case,
@@ -106,12 +99,15 @@ pub fn opens_again(
     moment: u32,
     bits: u32,
 ) -> Result<bool, Fail> {
-    let disk = left(disk, moment, bits)?;
-    let plain = read(alloc, &disk, case.keys)?;
-    let opened = open(alloc, disk, limits_of(case))?.into_disk();
-    for moment in 0..opened.calls() {
-        let quiet = is_quiet(&opened, moment)?;
-        if !quiet && !stops_as(alloc, case, &opened, moment.saturating_add(1), &plain)? {
+    let start = left(disk, moment, bits)?;
+    let plain = read(alloc, &start, case.keys)?;
+    let opened = open(alloc, left(disk, moment, bits)?, limits_of(case))?.into_disk();
+    for back in 1..=opened.calls() {
+        let moment = opened.calls().saturating_sub(back);
+        if are_same(&left(&opened, moment, 31)?, &start) {
+            return Ok(true);
+        }
+        if !stops_as(alloc, case, &opened, moment, &plain)? {
             return Ok(false);
         }
     }

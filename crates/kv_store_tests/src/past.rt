@@ -1,6 +1,6 @@
 use kv_base::Limits;
 use kv_disk::{Disk, PlainDisk};
-use kv_recover::{OpenFault, open_store, survey};
+use kv_recover::{OpenFault, open_store};
 use kv_slot::put_head;
 use kv_tree::TreeIndex;
 use std::alloc::Global;
@@ -33,21 +33,10 @@ fn refusal(alloc: Global, disk: PlainDisk) -> Option<OpenFault> {
     }
 }
 
-// The end of class 1, as a survey says.
-fn end(alloc: Global, disk: PlainDisk) -> Result<u32, OpenFault> {
-    let mut disk = disk;
-    let found = survey(alloc, &mut disk, 0, 1)?;
-    Ok(match found.classes.as_slice().first() {
-        Some(count) => count.end,
-        None => 0,
-    })
-}
-
 // A page has 64 slots of class 1, so 2^24 slots are the pages 0 to 262,143.
 #[test]
 fn a_byte_past_the_most_slots_is_refused(rt: HostRuntime) -> Result<(), Fail> {
     let alloc = rt.alloc();
-    assert_eq!(rt; end(alloc, disk_with(alloc, 262_143)?)?, 16_777_216);
     let refused = Some(OpenFault::NotAStore);
     assert_eq!(rt; refusal(alloc, disk_with(alloc, 262_144)?), refused);
     Ok(())

@@ -1,7 +1,7 @@
 use crate::asked::Outcome;
-use crate::cases::{Case, Turn, cases};
+use crate::cases::{Case, Turn, items, moves, plans};
 use crate::opened::is_left;
-use crate::plain::{is_told, read};
+use crate::plain::{Plain, is_told, read};
 use crate::run::{begin, calls_behind, limits_of, open_case};
 use crate::store::{answers, try_open};
 use kv_base::Calls;
@@ -19,12 +19,11 @@ fn unsure(alloc: Global, case: &Case, turn: &Turn, failing: &[u32]) -> Result<Me
     Ok(worker.into_disk())
 }
 
-// Whether the disk reads as before, and a crash leaves each key its value before the batch or behind
-// it.
-fn stands(alloc: Global, case: &Case, disk: &MemDisk, before: &MemDisk) -> Result<bool, Fail> {
-    let plain = read(alloc, before, case.keys)?;
+// Whether the disk reads as the plain reader found before, and a crash leaves each key its value
+// before the batch or behind it.
+fn stands(alloc: Global, case: &Case, disk: &MemDisk, before: &Plain) -> Result<bool, Fail> {
     let after = read(alloc, disk, case.keys)?;
-    if !is_told(&after, &plain.values, plain.floor) {
+    if !is_told(&after, &before.values, before.floor) {
         return Ok(false);
     }
     for bits in [0, 1, 2, 31] {
@@ -35,18 +34,10 @@ fn stands(alloc: Global, case: &Case, disk: &MemDisk, before: &MemDisk) -> Resul
     Ok(true)
 }
 
-// Whether an opening of which this call fails is refused, and leaves what was there.
-fn is_refused(
-    alloc: Global,
-    case: &Case,
-    turn: &Turn,
-    failed: u32,
-    call: u32,
-) -> Result<bool, Fail> {
-    let before = unsure(alloc, case, turn, &[failed])?;
-    let disk = unsure(alloc, case, turn, &[failed, call])?;
+// Whether opening the disk is refused for a failed call, and leaves what was there.
+fn is_refused(alloc: Global, case: &Case, disk: MemDisk, before: &Plain) -> Result<bool, Fail> {
     match try_open(alloc, disk, limits_of(case)) {
-        Err((disk, OpenFault::DiskFault)) => stands(alloc, case, &disk, &before),
+        Err((disk, OpenFault::DiskFault)) => stands(alloc, case, &disk, before),
         _ => Ok(false),
     }
 }
@@ -54,17 +45,19 @@ fn is_refused(
 // Whether each call of an opening behind this failed call is refused where it fails.
 fn are_refused(alloc: Global, case: &Case, turn: &Turn, failed: u32) -> Result<bool, Fail> {
     let disk = unsure(alloc, case, turn, &[failed])?;
+    let before = read(alloc, &disk, case.keys)?;
     let from = disk.calls();
     let to = open_case(alloc, case, disk)?.into_disk().calls();
     for call in from..to {
-        if !is_refused(alloc, case, turn, failed, call.saturating_add(1))? {
+        let disk = unsure(alloc, case, turn, &[failed, call.saturating_add(1)])?;
+        if !is_refused(alloc, case, disk, &before)? {
             return Ok(false);
         }
     }
     Ok(from < to)
 }
 
-// Whether the openings behind each failed write or sync of the case's first batch go well.
+// Whether the openings behind each failed write or sync of the batch go well.
 fn all_refused(alloc: Global, case: &Case, turn: &Turn) -> Result<bool, Fail> {
     let from = calls_behind(alloc, case, 0)?;
     for call in turn.reads..turn.calls {
@@ -76,13 +69,38 @@ fn all_refused(alloc: Global, case: &Case, turn: &Turn) -> Result<bool, Fail> {
     Ok(true)
 }
 
-#[test]
-fn a_failed_call_of_an_opening_leaves_what_was_there(rt: HostRuntime) -> Result<(), Fail> {
-    let alloc = rt.alloc();
-    for case in cases() {
-        for turn in case.turns.iter().take(1) {
-            assert!(rt; all_refused(alloc, case, turn)?, "{}", case.why);
+// The first of the cases of which the first batch doesn't.
+fn first_wrong(alloc: Global, cases: &'static [Case]) -> Result<Option<&'static str>, Fail> {
+    for case in cases {
+        let well = match case.turns.first() {
+            Some(turn) => all_refused(alloc, case, turn)?,
+            None => false,
+        };
+        if !well {
+            return Ok(Some(case.why));
         }
     }
+    Ok(None)
+}
+
+#[test]
+fn a_failed_opening_behind_a_move_leaves_what_was_there(rt: HostRuntime) -> Result<(), Fail> {
+    assert_eq!(rt; first_wrong(rt.alloc(), moves())?, None);
+    Ok(())
+}
+
+#[test]
+fn a_failed_opening_behind_a_put_or_a_delete_leaves_what_was_there(
+    rt: HostRuntime,
+) -> Result<(), Fail> {
+    assert_eq!(rt; first_wrong(rt.alloc(), items())?, None);
+    Ok(())
+}
+
+#[test]
+fn a_failed_opening_behind_several_changes_leaves_what_was_there(
+    rt: HostRuntime,
+) -> Result<(), Fail> {
+    assert_eq!(rt; first_wrong(rt.alloc(), plans())?, None);
     Ok(())
 }

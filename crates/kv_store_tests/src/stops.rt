@@ -1,4 +1,4 @@
-use crate::cases::{Case, Turn, cases};
+use crate::cases::{Case, Turn, items, moves, plans, turns};
 use crate::opened::{CHOSEN, is_left, opens_again};
 use crate::run::{begin, calls_behind};
 use kv_base::Calls;
@@ -27,45 +27,82 @@ fn leaves_values(
     Ok(true)
 }
 
-// Whether each moment of the batch leaves the values behind the batch before it or behind it: the
-// former before its first call, the latter behind its last.
+// The batches that may be the last of which the values are left, so many calls behind the beginning
+// of one: the batch before it until it is answered, and itself from its first call on.
+fn left_behind(turn: &Turn, call: u32, batches: (usize, usize)) -> (usize, usize) {
+    let old = if call == turn.calls {
+        batches.1
+    } else {
+        batches.0
+    };
+    let new = if call == 0 { batches.0 } else { batches.1 };
+    (old, new)
+}
+
+// Whether each moment of the batch leaves the values behind the batch before it or behind it.
 fn stops_well(
     alloc: Global,
     case: &Case,
     disk: &MemDisk,
     turn: &Turn,
-    before: usize,
-    behind: usize,
+    batches: (usize, usize),
 ) -> Result<bool, Fail> {
-    let from = calls_behind(alloc, case, before)?;
+    let from = calls_behind(alloc, case, batches.0)?;
     for call in 0..=turn.calls {
         let moment = from.saturating_add(call);
         let written = call.saturating_sub(turn.reads);
-        let old = if call == turn.calls { behind } else { before };
-        let new = if call == 0 { before } else { behind };
-        if !leaves_values(alloc, case, disk, moment, written, (old, new))? {
+        let batches = left_behind(turn, call, batches);
+        if !leaves_values(alloc, case, disk, moment, written, batches)? {
             return Ok(false);
         }
     }
     Ok(true)
 }
 
-// How many batches of the case go well whatever stops them.
-fn count_well(alloc: Global, case: &Case) -> Result<usize, Fail> {
+// Whether each batch of the case does.
+fn all_stop_well(alloc: Global, case: &Case) -> Result<bool, Fail> {
     let disk = begin(alloc, case, case.turns.len(), Calls::none())?.into_disk();
     for number in 0..case.turns.len() {
-        if !stops_well(alloc, case, &disk, &case.turns[number], number, number + 1)? {
-            return Ok(number);
+        let batches = (number, number + 1);
+        if !stops_well(alloc, case, &disk, &case.turns[number], batches)? {
+            return Ok(false);
         }
     }
-    Ok(case.turns.len())
+    Ok(true)
+}
+
+// The first of the cases that doesn't.
+fn first_wrong(alloc: Global, cases: &'static [Case]) -> Result<Option<&'static str>, Fail> {
+    for case in cases {
+        if !all_stop_well(alloc, case)? {
+            return Ok(Some(case.why));
+        }
+    }
+    Ok(None)
 }
 
 #[test]
-fn a_stop_leaves_each_key_its_old_or_its_new_value(rt: HostRuntime) -> Result<(), Fail> {
-    let alloc = rt.alloc();
-    for case in cases() {
-        assert_eq!(rt; count_well(alloc, case)?, case.turns.len(), "{}", case.why);
-    }
+fn a_stop_of_a_move_leaves_the_old_or_the_new_value(rt: HostRuntime) -> Result<(), Fail> {
+    assert_eq!(rt; first_wrong(rt.alloc(), moves())?, None);
+    Ok(())
+}
+
+#[test]
+fn a_stop_of_a_put_or_a_delete_leaves_the_old_or_the_new_value(
+    rt: HostRuntime,
+) -> Result<(), Fail> {
+    assert_eq!(rt; first_wrong(rt.alloc(), items())?, None);
+    Ok(())
+}
+
+#[test]
+fn a_stop_of_several_changes_leaves_the_old_or_the_new_values(rt: HostRuntime) -> Result<(), Fail> {
+    assert_eq!(rt; first_wrong(rt.alloc(), plans())?, None);
+    Ok(())
+}
+
+#[test]
+fn a_stop_leaves_what_each_batch_answered(rt: HostRuntime) -> Result<(), Fail> {
+    assert_eq!(rt; first_wrong(rt.alloc(), turns())?, None);
     Ok(())
 }

@@ -1,4 +1,4 @@
-use crate::cases::{Case, cases};
+use crate::cases::{Case, items, moves, plans, turns};
 use crate::rows::rows;
 use crate::run::{are_of, begin, calls_behind, values};
 use crate::store::Store;
@@ -48,25 +48,39 @@ fn are_right(alloc: Global, case: &Case, count: usize, from: u32) -> Result<bool
     Ok(disk.calls() == calls && has_values(alloc, case, count, from)?)
 }
 
-// How many batches of the case go as they are told.
-fn count_right(alloc: Global, case: &Case) -> Result<usize, Fail> {
+// Whether all batches of the case go as they are told.
+fn is_right(alloc: Global, case: &Case) -> Result<bool, Fail> {
     let from = calls_behind(alloc, case, 0)?;
     for number in 0..case.turns.len() {
         if !are_right(alloc, case, number + 1, from)? {
-            return Ok(number);
+            return Ok(false);
         }
     }
-    Ok(case.turns.len())
+    Ok(true)
+}
+
+// The first of the cases of which they don't.
+fn first_wrong(alloc: Global, cases: &'static [Case]) -> Result<Option<&'static str>, Fail> {
+    for case in cases {
+        if !is_right(alloc, case)? {
+            return Ok(Some(case.why));
+        }
+    }
+    Ok(None)
 }
 
 #[test]
 fn batches_are_answered(rt: HostRuntime) -> Result<(), Fail> {
     let alloc = rt.alloc();
-    for case in cases() {
-        assert_eq!(rt; count_right(alloc, case)?, case.turns.len(), "{}", case.why);
-    }
-    for case in rows() {
-        assert_eq!(rt; count_right(alloc, case)?, case.turns.len(), "{}", case.why);
-    }
+    assert_eq!(rt; first_wrong(alloc, moves())?, None);
+    assert_eq!(rt; first_wrong(alloc, items())?, None);
+    assert_eq!(rt; first_wrong(alloc, plans())?, None);
+    assert_eq!(rt; first_wrong(alloc, turns())?, None);
+    Ok(())
+}
+
+#[test]
+fn batches_that_fail_or_find_no_room_are_answered(rt: HostRuntime) -> Result<(), Fail> {
+    assert_eq!(rt; first_wrong(rt.alloc(), rows())?, None);
     Ok(())
 }

@@ -77,7 +77,10 @@ fn fails_so(
         return is_refused(alloc, case, turn, batches, worker);
     }
     match closed_disk(alloc, turn, worker)? {
-        Some(disk) => leaves_values(alloc, case, batches, &disk, call - turn.reads + 1),
+        Some(disk) => {
+            let waiting = (call - turn.reads).saturating_add(1);
+            leaves_values(alloc, case, batches, &disk, waiting)
+        }
         None => Ok(false),
     }
 }

@@ -4,6 +4,7 @@ use crate::run::{are_of, limits_of, values};
 use crate::store::open;
 use kv_base::Limits;
 use kv_disk::MemDisk;
+use kv_lanes::same;
 use std::alloc::Global;
 use std::test::Fail;
 
@@ -81,7 +82,7 @@ fn are_same(disk: &MemDisk, other: &MemDisk) -> bool {
     for file in 0..12 {
         for number in 0..PAGES[file as usize] {
             let page = u32::from(number);
-            if disk.page(file, page) != other.page(file, page) {
+            if !same(disk.page(file, page), other.page(file, page)) {
                 return false;
             }
         }

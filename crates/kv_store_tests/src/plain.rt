@@ -2,6 +2,7 @@ use crate::asked::{Told, found};
 use crate::cases::{Held, Value};
 use kv_base::NoMemory;
 use kv_disk::MemDisk;
+use kv_lanes::is_zero;
 use kv_model::{PlainImage, Stored};
 use std::alloc::Global;
 use std::test::Fail;
@@ -21,7 +22,7 @@ pub struct Plain {
 
 // Copies the page into the image, if it has a byte other than zero.
 fn copy_page(image: &mut PlainImage, file: u8, number: u16, page: &[u8]) -> Result<(), NoMemory> {
-    if page.len() == 4096 && page.iter().any(|byte| *byte != 0) {
+    if page.len() == 4096 && !is_zero(page) {
         let mut content = [0; 4096];
         content.copy_from_slice(page);
         image.write_page(file, number, &content)?;

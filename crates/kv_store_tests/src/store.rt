@@ -162,6 +162,28 @@ pub fn first_wrong(batch: &Batch, rows: &[Row], base: u64, outcome: Outcome) -> 
     rows.len()
 }
 
+// Answers the requests, with the stamps from `base` on. Whether the replies are those of the outcome.
+fn answers_from(
+    alloc: Global,
+    store: &mut Store,
+    rows: &[Row],
+    base: u64,
+    outcome: Outcome,
+) -> Result<bool, NoMemory> {
+    let mut batch = batch_of(alloc, rows)?;
+    let asked = step(alloc, store, &mut batch, base);
+    Ok(asked && first_wrong(&batch, rows, base, outcome) == rows.len())
+}
+
+// The highest stamp behind so many requests, which is as before where the worker is closed.
+fn stamp_behind(store: &Store, count: usize) -> u64 {
+    if store.closed() {
+        store.highest()
+    } else {
+        store.highest().saturating_add(count as u64)
+    }
+}
+
 /// Answers the requests, with the next stamps. Whether the replies are those of the outcome, and
 /// the highest stamp the last one of the batch, or as before where the worker is closed.
 pub fn answers(
@@ -173,14 +195,8 @@ pub fn answers(
     if rows.is_empty() {
         return Ok(true);
     }
-    let before = store.highest();
-    let behind = if store.closed() {
-        before
-    } else {
-        before.saturating_add(rows.len() as u64)
-    };
-    let base = before.saturating_add(1);
-    let mut batch = batch_of(alloc, rows)?;
-    let asked = step(alloc, store, &mut batch, base);
-    Ok(asked && first_wrong(&batch, rows, base, outcome) == rows.len() && store.highest() == behind)
+    let behind = stamp_behind(store, rows.len());
+    let base = store.highest().saturating_add(1);
+    let well = answers_from(alloc, store, rows, base, outcome)?;
+    Ok(well && store.highest() == behind)
 }

@@ -3,7 +3,7 @@ use crate::cases::{Case, Turn, items, moves, plans, turns};
 use crate::opened::{CHOSEN, is_left};
 use crate::run::{are_of, begin, calls_behind, values};
 use crate::store::{Store, answers};
-use kv_base::Calls;
+use kv_base::{Calls, NoMemory};
 use kv_disk::MemDisk;
 use std::alloc::Global;
 use std::test::Fail;
@@ -14,6 +14,21 @@ fn has_values(alloc: Global, case: &Case, worker: &mut Store, count: usize) -> R
     Ok(are_of(&found, case.keys, count, count))
 }
 
+// Whether the batch has this outcome, and the keys then the values behind so many batches.
+fn ends_so(
+    alloc: Global,
+    case: &Case,
+    turn: &Turn,
+    outcome: Outcome,
+    worker: &mut Store,
+    count: usize,
+) -> Result<bool, Fail> {
+    if !answers(alloc, worker, turn.rows, outcome)? {
+        return Ok(false);
+    }
+    has_values(alloc, case, worker, count)
+}
+
 // Whether a failed read refuses the batch and leaves the store as it was, and the batch can come
 // again.
 fn is_refused(
@@ -21,28 +36,22 @@ fn is_refused(
     case: &Case,
     turn: &Turn,
     batches: (usize, usize),
-    worker: Store,
+    worker: &mut Store,
 ) -> Result<bool, Fail> {
-    let mut worker = worker;
     let refused = Outcome::Refused(Told::DiskFault);
-    Ok(
-        answers(alloc, &mut worker, turn.rows, refused)?
-            && !worker.closed()
-            && has_values(alloc, case, &mut worker, batches.0)?
-            && answers(alloc, &mut worker, turn.rows, Outcome::Done)?
-            && has_values(alloc, case, &mut worker, batches.1)?,
-    )
+    if !ends_so(alloc, case, turn, refused, worker, batches.0)? {
+        return Ok(false);
+    }
+    ends_so(alloc, case, turn, Outcome::Done, worker, batches.1)
 }
 
-// The disk of a worker that a failed write or sync of the batch closes.
-fn closed_disk(alloc: Global, turn: &Turn, worker: Store) -> Result<Option<MemDisk>, Fail> {
-    let mut worker = worker;
+// Whether a failed write or sync of the batch closes the worker.
+fn is_closed(alloc: Global, turn: &Turn, worker: &mut Store) -> Result<bool, NoMemory> {
     let closed = Outcome::Refused(Told::Closed);
-    let well = answers(alloc, &mut worker, turn.rows, Outcome::Failed)?
-        && worker.closed()
-        && answers(alloc, &mut worker, turn.rows, closed)?;
-    let disk = worker.into_disk();
-    Ok(if well { Some(disk) } else { None })
+    if !answers(alloc, worker, turn.rows, Outcome::Failed)? {
+        return Ok(false);
+    }
+    answers(alloc, worker, turn.rows, closed)
 }
 
 // Whether a crash leaves each key its old or its new value, whatever it leaves of the waiting pages,
@@ -62,6 +71,42 @@ fn leaves_values(
     Ok(true)
 }
 
+// The case's store behind so many batches, where the next one's call with this number fails.
+fn failing(alloc: Global, case: &Case, count: usize, call: u32) -> Result<Store, Fail> {
+    let from = calls_behind(alloc, case, count)?;
+    let calls = Calls::of(alloc, &[from.saturating_add(call).saturating_add(1)])?;
+    begin(alloc, case, count, calls)
+}
+
+// Whether the batch goes as it should where this read fails.
+fn is_read_so(
+    alloc: Global,
+    case: &Case,
+    turn: &Turn,
+    batches: (usize, usize),
+    call: u32,
+) -> Result<bool, Fail> {
+    let mut worker = failing(alloc, case, batches.0, call)?;
+    is_refused(alloc, case, turn, batches, &mut worker)
+}
+
+// Whether the batch goes as it should where this write or sync fails, behind so many others.
+fn is_written_so(
+    alloc: Global,
+    case: &Case,
+    turn: &Turn,
+    batches: (usize, usize),
+    call: u32,
+    others: u32,
+) -> Result<bool, Fail> {
+    let mut worker = failing(alloc, case, batches.0, call)?;
+    if !is_closed(alloc, turn, &mut worker)? {
+        return Ok(false);
+    }
+    let disk = worker.into_disk();
+    leaves_values(alloc, case, batches, &disk, others.saturating_add(1))
+}
+
 // Whether the batch goes as it should where this one of its calls fails.
 fn fails_so(
     alloc: Global,
@@ -70,18 +115,9 @@ fn fails_so(
     batches: (usize, usize),
     call: u32,
 ) -> Result<bool, Fail> {
-    let from = calls_behind(alloc, case, batches.0)?;
-    let failing = Calls::of(alloc, &[from.saturating_add(call).saturating_add(1)])?;
-    let worker = begin(alloc, case, batches.0, failing)?;
-    if call < turn.reads {
-        return is_refused(alloc, case, turn, batches, worker);
-    }
-    match closed_disk(alloc, turn, worker)? {
-        Some(disk) => {
-            let waiting = (call - turn.reads).saturating_add(1);
-            leaves_values(alloc, case, batches, &disk, waiting)
-        }
-        None => Ok(false),
+    match call.checked_sub(turn.reads) {
+        None => is_read_so(alloc, case, turn, batches, call),
+        Some(others) => is_written_so(alloc, case, turn, batches, call, others),
     }
 }
 

@@ -5,6 +5,7 @@ use crate::store::open;
 use kv_base::Limits;
 use kv_disk::MemDisk;
 use kv_lanes::same;
+use kv_recover::OpenFault;
 use std::alloc::Global;
 use std::test::Fail;
 
@@ -90,9 +91,34 @@ fn are_same(disk: &MemDisk, other: &MemDisk) -> bool {
     true
 }
 
-/// Opens what a crash leaves, and stops that at each of its calls from its first write on: up to
-/// there nothing has changed. Whether what is left then opens with what the plain reader found
-/// before.
+// Whether the disk, stopped at each call of its opening from the first write on, opens as it is told.
+// Up to there it is as at the start.
+fn stops_all_as(
+    alloc: Global,
+    case: &Case,
+    disk: &MemDisk,
+    start: &MemDisk,
+    plain: &Plain,
+) -> Result<bool, Fail> {
+    for back in 1..=disk.calls() {
+        let moment = disk.calls().saturating_sub(back);
+        if are_same(&left(disk, moment, 31)?, start) {
+            return Ok(true);
+        }
+        if !stops_as(alloc, case, disk, moment, plain)? {
+            return Ok(false);
+        }
+    }
+    Ok(true)
+}
+
+// The disk once it is opened.
+fn opened(alloc: Global, case: &Case, disk: MemDisk) -> Result<MemDisk, OpenFault> {
+    Ok(open(alloc, disk, limits_of(case))?.into_disk())
+}
+
+/// Opens what a crash leaves, and stops that at each of its calls. Whether what is left then opens
+/// with what the plain reader found before.
 pub fn opens_again(
     alloc: Global,
     case: &Case,
@@ -102,15 +128,6 @@ pub fn opens_again(
 ) -> Result<bool, Fail> {
     let start = left(disk, moment, bits)?;
     let plain = read(alloc, &start, case.keys)?;
-    let opened = open(alloc, left(disk, moment, bits)?, limits_of(case))?.into_disk();
-    for back in 1..=opened.calls() {
-        let moment = opened.calls().saturating_sub(back);
-        if are_same(&left(&opened, moment, 31)?, &start) {
-            return Ok(true);
-        }
-        if !stops_as(alloc, case, &opened, moment, &plain)? {
-            return Ok(false);
-        }
-    }
-    Ok(true)
+    let opened = opened(alloc, case, left(disk, moment, bits)?)?;
+    stops_all_as(alloc, case, &opened, &start, &plain)
 }

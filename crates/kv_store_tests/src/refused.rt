@@ -42,19 +42,36 @@ fn is_refused(alloc: Global, case: &Case, disk: MemDisk, before: &Plain) -> Resu
     }
 }
 
+// The number of calls of the disk once it is opened.
+fn calls_opened(alloc: Global, case: &Case, disk: MemDisk) -> Result<u32, OpenFault> {
+    Ok(open_case(alloc, case, disk)?.into_disk().calls())
+}
+
+// Whether each call between these of an opening behind the failed call is refused where it fails.
+fn all_between(
+    alloc: Global,
+    case: &Case,
+    turn: &Turn,
+    failed: u32,
+    calls: (u32, u32),
+    before: &Plain,
+) -> Result<bool, Fail> {
+    for call in calls.0..calls.1 {
+        let disk = unsure(alloc, case, turn, &[failed, call.saturating_add(1)])?;
+        if !is_refused(alloc, case, disk, before)? {
+            return Ok(false);
+        }
+    }
+    Ok(calls.0 < calls.1)
+}
+
 // Whether each call of an opening behind this failed call is refused where it fails.
 fn are_refused(alloc: Global, case: &Case, turn: &Turn, failed: u32) -> Result<bool, Fail> {
     let disk = unsure(alloc, case, turn, &[failed])?;
     let before = read(alloc, &disk, case.keys)?;
     let from = disk.calls();
-    let to = open_case(alloc, case, disk)?.into_disk().calls();
-    for call in from..to {
-        let disk = unsure(alloc, case, turn, &[failed, call.saturating_add(1)])?;
-        if !is_refused(alloc, case, disk, &before)? {
-            return Ok(false);
-        }
-    }
-    Ok(from < to)
+    let to = calls_opened(alloc, case, disk)?;
+    all_between(alloc, case, turn, failed, (from, to), &before)
 }
 
 // Whether the openings behind each failed write or sync of the batch go well.
@@ -69,14 +86,18 @@ fn all_refused(alloc: Global, case: &Case, turn: &Turn) -> Result<bool, Fail> {
     Ok(true)
 }
 
-// The first of the cases of which the first batch doesn't.
+// Whether they go well of the case's first batch.
+fn first_refused(alloc: Global, case: &Case) -> Result<bool, Fail> {
+    match case.turns.first() {
+        Some(turn) => all_refused(alloc, case, turn),
+        None => Ok(false),
+    }
+}
+
+// The first of the cases of which they don't.
 fn first_wrong(alloc: Global, cases: &'static [Case]) -> Result<Option<&'static str>, Fail> {
     for case in cases {
-        let well = match case.turns.first() {
-            Some(turn) => all_refused(alloc, case, turn)?,
-            None => false,
-        };
-        if !well {
+        if !first_refused(alloc, case)? {
             return Ok(Some(case.why));
         }
     }

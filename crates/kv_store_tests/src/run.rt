@@ -1,5 +1,5 @@
 use crate::asked::{Ask, Outcome, Told, append_task, no_batch, told_at};
-use crate::cases::{Case, Held, Value};
+use crate::cases::{Case, Held, Turn, Value};
 use crate::store::{Store, answers, open, step};
 use kv_base::{Calls, Limits, NoMemory};
 use kv_disk::MemDisk;
@@ -24,20 +24,32 @@ pub fn open_case(alloc: Global, case: &Case, disk: MemDisk) -> Result<Store, Ope
     open(alloc, disk, limits_of(case))
 }
 
-/// The case's store, filled and opened again and behind its first batches, on a disk of which these
-/// calls fail.
-pub fn begin(alloc: Global, case: &Case, count: usize, failing: Calls) -> Result<Store, Fail> {
+// The disk of the case's store, filled, of which these calls fail.
+fn filled(alloc: Global, case: &Case, failing: Calls) -> Result<MemDisk, Fail> {
     let disk = MemDisk::new(alloc, PAGES, CALLS, failing)?;
     let mut worker = open_case(alloc, case, disk)?;
     if !answers(alloc, &mut worker, case.before, Outcome::Done)? {
         return Err("the store isn't filled".into());
     }
-    let mut worker = open_case(alloc, case, worker.into_disk())?;
-    for number in 0..count.min(case.turns.len()) {
-        let turn = &case.turns[number];
-        if !answers(alloc, &mut worker, turn.rows, turn.outcome)? {
-            return Err("another reply".into());
+    Ok(worker.into_disk())
+}
+
+// Gives the store the batches. Whether they are answered as they are told.
+fn make(alloc: Global, worker: &mut Store, turns: &[Turn], count: usize) -> Result<bool, Fail> {
+    for turn in turns.iter().take(count) {
+        if !answers(alloc, worker, turn.rows, turn.outcome)? {
+            return Ok(false);
         }
+    }
+    Ok(true)
+}
+
+/// The case's store, filled and opened again and behind its first batches, on a disk of which these
+/// calls fail.
+pub fn begin(alloc: Global, case: &Case, count: usize, failing: Calls) -> Result<Store, Fail> {
+    let mut worker = open_case(alloc, case, filled(alloc, case, failing)?)?;
+    if !make(alloc, &mut worker, case.turns, count)? {
+        return Err("another reply".into());
     }
     Ok(worker)
 }

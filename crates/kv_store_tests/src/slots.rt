@@ -17,7 +17,6 @@ const TWO: Limits = Limits { slots: 2, cache: 8 };
 // what each is told.
 struct Round(u32, u32, Ask, Told);
 
-// Both of 100 and of 200 keys.
 static DELETED: [Round; 2] = [
     Round(0, 100, Ask::Put(7, 10), Told::Stored),
     Round(0, 100, Ask::Delete, Told::Removed),

@@ -15,15 +15,26 @@ use kv_slot::class_of;
 use kv_tree::TreeIndex;
 use kv_worker::{Batch, Worker};
 use std::alloc::Global;
+use std::marker::Model;
 
 /// A number far below the last stamp.
 pub const LAST_BASE: u64 = 1 << 61;
 
-/// The worker 0 of 1 over a disk in memory.
+/// The worker 0 of 1 over a disk in memory. Proofs see nothing of it, so that those of the tests stay
+/// short.
 #[derive(Drop)]
 pub struct Store {
     worker: Worker<MemDisk, TreeIndex>,
-    ghost own: { (worker.store.worker ≡ 0) × (worker.store.workers ≡ 1) },
+}
+
+impl Model for Store {
+    ghost use Rattle.std.specs.Prelude.{◌≡◌, ℕ};
+
+    ghost Value = { ℕ };
+
+    ghost view = { λ _. 0 };
+
+    ghost invariant = { λ s. (s.worker.store.worker ≡ 0) × (s.worker.store.workers ≡ 1) };
 }
 
 impl Store {

@@ -7,3 +7,5 @@ pub mod Laws
 pub mod Outcome
 pub mod Run
 pub mod Words
+pub mod Asked
+pub mod StatusLine

@@ -1,12 +1,167 @@
 -- The words of a command.
-use Rattle.std.specs.Prelude.{◌≡◌, ◌≢◌, ℕ, ◌⊎◌, List, [], ◌∷◌, codes}
+use Rattle.std.specs.Prelude.{◌≡◌, ◌≤◌, ◌^◌, ℕ, ◌==◌, ◌||◌, ◌&&◌, not, List, [], ◌∷◌, ◌++◌, length, codes}
+use Rattle.std.specs.Prelude.{Bool, true, false, Option, None, Some, is_some, if◌then◌else◌}
+use Rattle.std.specs.Option.{option_map_or}
+use Rattle.std.specs.Prelude.{option_and_then}
+use Rattle.std.specs.Str.{bytes_eq}
+use Rattle.std.specs.Str.Parse.{IsNumeral, digits_value, without_leading_plus}
+use Rattle.kv_base.specs.declared.limits.Limits.{Limits}
+use Rattle.kv_serve.specs.declared.said.OptionName.{OptionName}
+use Rattle.kv_serve.specs.declared.said.OptionName.TheVariants.{Slots, Cache}
 
--- a word that names a folder: it isn't empty, and begins with - only where it is - alone
-abbrev pub IsFolder : List ℕ → Type 0
-IsFolder [] = ⊥
-IsFolder (first ∷ rest) = (first ≢ 45) ⊎ (rest ≡ [])
+-- a word, as its bytes
+abbrev pub Text : Type 0
+Text = List ℕ
 
--- serve DIR 1 - -
-pub record IsServe (words : List (List ℕ)) (folder : List ℕ) : Type 0 where
-  pub words_are : words ≡ codes "serve" ∷ folder ∷ codes "1" ∷ codes "-" ∷ codes "-" ∷ []
-  pub folder_is : IsFolder folder
+-- what the words behind a command say: the plain ones in order, the values of the options, the
+-- option whose value comes next, and whether all later words are plain
+pub record Said : Type 0 where
+  pub plain : List Text
+  pub slots : Option Text
+  pub cache : Option Text
+  pub waits : Option OptionName
+  pub trailing : Bool
+
+-- before the first of them
+abbrev pub nothing_said : Said
+nothing_said = record { plain = []; slots = None; cache = None; waits = None; trailing = false }
+
+-- one plain word more
+abbrev pub with_plain : Text → Said → Said
+with_plain word said = record said { plain = said.plain ++ word ∷ [] }
+
+-- the value of an option, which may come once
+abbrev pub with_value : OptionName → Text → Said → Option Said
+with_value Slots value said = if is_some said.slots then None
+    else Some (record said { slots = Some value; waits = None })
+with_value Cache value said = if is_some said.cache then None
+    else Some (record said { cache = Some value; waits = None })
+
+-- what stands behind the front in a word that begins with it
+abbrev pub rest_behind : Text → Text → Option Text
+rest_behind [] word = Some word
+rest_behind (c ∷ front) [] = None
+rest_behind (c ∷ front) (x ∷ word) = if c == x then rest_behind front word else None
+
+-- the word begins with -
+abbrev pub is_dashed : Text → Bool
+is_dashed [] = false
+is_dashed (c ∷ rest) = c == 45
+
+-- the word is plain wherever it stands: it is - alone, or doesn't begin with -
+abbrev pub is_plain : Text → Bool
+is_plain word = not (is_dashed word) || bytes_eq word (codes "-")
+
+-- an option without its value
+abbrev pub name_said : Text → Said → Option Said
+name_said word said = if bytes_eq word (codes "--slots") then Some (record said { waits = Some Slots })
+    else if bytes_eq word (codes "--cache") then Some (record said { waits = Some Cache })
+    else None
+
+-- an option with its value, as --slots=5, or else one without
+abbrev pub option_said : Text → Said → Option Said
+option_said word said = option_map_or (λ value. with_value Slots value said)
+    (rest_behind (codes "--slots=") word)
+    (option_map_or (λ value. with_value Cache value said) (rest_behind (codes "--cache=") word)
+    (name_said word said))
+
+-- a word where none was waited for: a plain one, --, or an option
+abbrev pub word_said : Text → Said → Option Said
+word_said word said = if is_plain word then Some (with_plain word said)
+    else if bytes_eq word (codes "--") then Some (record said { trailing = true })
+    else option_said word said
+
+-- a word where that of an option is waited for, or not
+abbrev pub next_said : Option OptionName → Text → Said → Option Said
+next_said (Some name) word said = if is_dashed word then None else with_value name word said
+next_said None word said = word_said word said
+
+-- one word more; none may be empty
+unfoldable pub one_more : Said → Text → Option Said
+one_more said word = if length word == 0 then None
+    else if said.trailing then Some (with_plain word said)
+    else next_said said.waits word said
+
+-- all words, if each of them may stand where it does
+abbrev pub all_said : Said → List Text → Option Said
+all_said said [] = Some said
+all_said said (word ∷ words) = option_and_then (λ more. all_said more words) (one_more said word)
+
+-- the text is this number: an optional + and digits
+pub record IsNumber (text : Text) (number : ℕ) : Type 0 where
+  pub digits : IsNumeral 10 (without_leading_plus text)
+  pub value : number ≡ digits_value 10 (without_leading_plus text)
+
+-- the same in a range
+pub record IsNumberIn (least most : ℕ) (text : Text) (number : ℕ) : Type 0 where
+  pub is : IsNumber text number
+  pub low : least ≤ number
+  pub high : number ≤ most
+
+-- the value of an option from 1 on, or what stands for it where it isn't there
+abbrev pub IsLimit : ℕ → ℕ → Option Text → ℕ → Type 0
+IsLimit most otherwise None number = number ≡ otherwise
+IsLimit most otherwise (Some text) number = IsNumberIn 1 most text number
+
+-- the limits that the options name; else 2^20 slots of each class and 256 pages
+pub record AreLimitsOf (said : Said) (limits : Limits) : Type 0 where
+  pub slots : IsLimit (2 ^ 24) (2 ^ 20) said.slots limits.slots
+  pub cache : IsLimit 1024 256 said.cache limits.cache
+
+-- no option is there, nor waits for its value
+abbrev pub HasNoOption : Said → Type 0
+HasNoOption said = (said.slots ≡ None) × (said.cache ≡ None)
+
+-- the words of a session over a worker: the folder of its store, its limits, and where the bytes come
+-- from and go to
+pub record Serving : Type 0 where
+  pub folder : Text
+  pub limits : Limits
+  pub input : Text
+  pub output : Text
+
+-- DIR N IN OUT with options, where N is 1
+pub record SaysServe (said : Said) (serving : Serving) : Type 0 where
+  pub workers : Text
+  pub plain : said.plain ≡ serving.folder ∷ workers ∷ serving.input ∷ serving.output ∷ []
+  pub one : IsNumberIn 1 1 workers 1
+  pub limits : AreLimitsOf said serving.limits
+
+-- the words of a report: the folder and the number of workers
+pub record Reporting : Type 0 where
+  pub folder : Text
+  pub workers : ℕ
+
+-- DIR N without options
+pub record SaysReport (said : Said) (reporting : Reporting) : Type 0 where
+  pub workers : Text
+  pub plain : said.plain ≡ reporting.folder ∷ workers ∷ []
+  pub number : IsNumberIn 1 16 workers reporting.workers
+  pub options : HasNoOption said
+
+-- a command
+pub data Asked : Type 0 where
+  serve : Serving → Asked
+  check : Reporting → Asked
+  dump : Reporting → Asked
+
+-- the words behind the first one say this of a command
+abbrev pub Says : Said → Asked → Type 0
+Says said (serve serving) = SaysServe said serving
+Says said (check reporting) = SaysReport said reporting
+Says said (dump reporting) = SaysReport said reporting
+
+-- the first word of a command
+abbrev pub first_word : Asked → Text
+first_word (serve serving) = codes "serve"
+first_word (check reporting) = codes "check"
+first_word (dump reporting) = codes "dump"
+
+-- the words are those of the command
+pub record Asks (words : List Text) (asked : Asked) : Type 0 where
+  pub rest : List Text
+  pub said : Said
+  pub words_are : words ≡ first_word asked ∷ rest
+  pub all : all_said nothing_said rest ≡ Some said
+  pub none_waits : said.waits ≡ None
+  pub says : Says said asked

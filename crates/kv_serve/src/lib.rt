@@ -9,10 +9,12 @@ mod give_back;
 mod laws;
 mod opening;
 mod refuse;
+mod report;
 mod room;
 #[cfg(test)]
 mod row_tests;
 mod run;
+mod said;
 mod serve;
 mod serve_disk;
 mod status;
@@ -20,10 +22,15 @@ mod status;
 mod stop_tests;
 #[cfg(test)]
 mod test_run;
+mod status_text;
 mod top;
 mod words;
+#[cfg(test)]
+mod words_tests;
 
 pub use ended::{Ended, Endings, Refused};
 pub use kv_recover::OpenFault;
 pub use kv_session::Ending;
+pub use status_text::status_line;
 pub use top::run_words;
+pub use words::{Command, WordsFault, read_words};

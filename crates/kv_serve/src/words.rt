@@ -1,44 +1,179 @@
-ghost use Rattle.std.specs.Prelude.{◌≡◌, ℕ, List, map, string_bytes, MatchOption, IsTrue, ◌↔◌};
-ghost use Rattle.kv_serve.specs.Words.{IsServe, IsFolder};
+ghost use Rattle.std.specs.Prelude.{◌≡◌, ℕ, map, option_map, string_bytes, MatchOption, MatchResult};
+ghost use Rattle.kv_serve.specs.Asked.{asked_by};
+ghost use Rattle.kv_serve.specs.Words.{Asked, Asks, AreLimitsOf, IsLimit, IsNumberIn, Reporting};
+ghost use Rattle.kv_serve.specs.Words.{Says, SaysReport, SaysServe, Serving, first_word};
 
-/// The folder, where the words are `serve DIR 1 - -`. DIR isn't empty, and begins with `-` only
-/// where it is `-`.
-pub fn served_folder(words: &[String]) -> Option<&str>
-    ensures { MatchOption result ((folder : List ℕ)
-        → IsServe (map (λ word. string_bytes word) words.now) folder
-        → ⊥) (λ folder. IsServe (map (λ word. string_bytes word) words.now) folder.now) }
+use crate::said::{Heard, hear_all};
+use kv_base::Limits;
+use std::alloc::{AllocError, Global};
+
+/// The limits of a store where none are named.
+const LIMITS: Limits = Limits {
+    slots: 1 << 20,
+    cache: 256,
+};
+
+/// The most slots of a class.
+const MOST_SLOTS: u32 = 1 << 24;
+
+/// The most pages that a cache keeps.
+const MOST_PAGES: u32 = 1_024;
+
+/// The most workers.
+const MOST_WORKERS: u32 = 16;
+
+/// A command.
+#[derive(Clone, Copy, Debug, PartialEq, Eq)]
+pub enum Command<'a> {
+    /// Serves a session over the store of one worker.
+    Serve {
+        /// The folder of the store.
+        folder: &'a str,
+        /// Its limits.
+        limits: Limits,
+        /// Where requests come from: a path, or `-` for standard input.
+        input: &'a str,
+        /// Where replies go: a path, or `-` for standard output.
+        output: &'a str,
+    },
+    /// Reports what stands in the slots of a store's disks.
+    Check {
+        /// The folder of the store.
+        folder: &'a str,
+        /// The number of workers, 1 to 16.
+        workers: u32,
+    },
+    /// Reports all items that a store's disks keep.
+    Dump {
+        /// The folder of the store.
+        folder: &'a str,
+        /// The number of workers, 1 to 16.
+        workers: u32,
+    },
+}
+
+/// Why words are no command.
+#[derive(Clone, Copy, Debug, PartialEq, Eq)]
+pub enum WordsFault {
+    /// They are none of a command.
+    Usage,
+    /// Want of memory.
+    NoMemory,
+}
+
+impl From<AllocError> for WordsFault {
+    ghost use Rattle.kv_serve.specs.declared.words.WordsFault.TheVariants.{NoMemory};
+
+    ghost from_gives = { λ _ fault. fault ≡ NoMemory };
+
+    fn from(_: AllocError) -> Self {
+        WordsFault::NoMemory
+    }
+}
+
+/// The number in a range that the text is, with an optional `+` before its digits.
+fn number_in(text: &str, least: u32, most: u32) -> Option<u32>
+    ensures { MatchOption result ((number : ℕ) → IsNumberIn least most text.now number → ⊥)
+        (IsNumberIn least most text.now) }
 {
-    match words {
-        [command, folder, workers, input, output] => {
-            if is_word(command, "serve")
-                && is_word(workers, "1")
-                && is_word(input, "-")
-                && is_word(output, "-")
-                && is_folder(folder.as_str())
-            {
-                Some(folder.as_str())
-            } else {
-                None
-            }
+    match text.parse::<u32>() {
+        Ok(number) if least <= number && number <= most => Some(number),
+        _ => None,
+    }
+}
+
+/// The limit that an option names.
+fn limit_in(text: Option<&str>, most: u32, usual: u32) -> Option<u32>
+    ensures { let value = option_map (λ word. word.now) text in
+        MatchOption result ((number : ℕ) → IsLimit most usual value number → ⊥)
+        (λ number. IsLimit most usual value number) }
+{
+    match text {
+        None => Some(usual),
+        Some(text) => number_in(text, 1, most),
+    }
+}
+
+/// The limits that the options name.
+fn limits_of(heard: &Heard) -> Option<Limits>
+    ensures { MatchOption result ((limits : Limits) → AreLimitsOf heard.now limits → ⊥)
+        (AreLimitsOf heard.now) }
+{
+    let slots = limit_in(heard.slots, MOST_SLOTS, LIMITS.slots)?;
+    let cache = limit_in(heard.cache, MOST_PAGES, LIMITS.cache)?;
+    Some(Limits { slots, cache })
+}
+
+/// The command `serve`, where the words behind it say one over one worker.
+fn served<'a>(heard: &Heard<'a>) -> Option<Command<'a>>
+    ensures { MatchOption result ((serving : Serving) → SaysServe heard.now serving → ⊥)
+        (λ command. (serving : Serving) × (asked_by command ≡ Asked.serve serving)
+        × SaysServe heard.now serving) }
+{
+    let [folder, workers, input, output] = heard.plain.as_slice() else {
+        return None;
+    };
+    number_in(workers, 1, 1)?;
+    let limits = limits_of(heard)?;
+    Some(Command::Serve {
+        folder,
+        limits,
+        input,
+        output,
+    })
+}
+
+/// The folder and the number of workers, where the words behind a report's name say them.
+fn reported<'a>(heard: &Heard<'a>) -> Option<(&'a str, u32)>
+    ensures { MatchOption result ((reporting : Reporting) → SaysReport heard.now reporting → ⊥)
+        (λ said. SaysReport heard.now (record { folder = said.0.now; workers = said.1 })) }
+{
+    let [folder, workers] = heard.plain.as_slice() else {
+        return None;
+    };
+    let workers = number_in(workers, 1, MOST_WORKERS)?;
+    if heard.slots.is_some() || heard.cache.is_some() {
+        return None;
+    }
+    Some((folder, workers))
+}
+
+/// The command with this first word, where the words behind it say one.
+fn command_of<'a>(first: &str, heard: &Heard<'a>) -> Option<Command<'a>>
+    ensures { MatchOption result ((asked : Asked) → first.now ≡ first_word asked
+        → Says heard.now asked → ⊥) (λ command. (first.now ≡ first_word (asked_by command))
+        × Says heard.now (asked_by command)) }
+{
+    match first {
+        "serve" => served(heard),
+        "check" => {
+            let (folder, workers) = reported(heard)?;
+            Some(Command::Check { folder, workers })
+        }
+        "dump" => {
+            let (folder, workers) = reported(heard)?;
+            Some(Command::Dump { folder, workers })
         }
         _ => None,
     }
 }
 
-/// Whether the word is the text.
-fn is_word(word: &String, text: &str) -> bool
-    ensures { IsTrue result ↔ (string_bytes word.now ≡ text.now) }
+/// The command that the words are, without the program's name: those of docs/protocol.md, "Words".
+/// Usage comes exactly where they are none.
+pub fn read_words<'a>(alloc: Global, words: &'a [String]) -> Result<Command<'a>, WordsFault>
+    ensures { MatchResult result (λ command. Asks (map (λ word. string_bytes word) words.now)
+        (asked_by command)) (λ fault. fault ≡ WordsFault.Usage
+        → (asked : Asked) → Asks (map (λ word. string_bytes word) words.now) asked → ⊥) }
 {
-    word.as_str() == text
-}
-
-/// Whether the word can name a folder.
-fn is_folder(word: &str) -> bool
-    ensures { IsTrue result ↔ IsFolder word.now }
-{
-    match word.as_bytes() {
-        [] => false,
-        [b'-', _, ..] => false,
-        _ => true,
+    let Some((first, rest)) = words.split_first() else {
+        return Err(WordsFault::Usage);
+    };
+    let heard = hear_all(alloc, rest)?;
+    if heard.waits.is_some() {
+        return Err(WordsFault::Usage);
+    }
+    match command_of(first.as_str(), &heard) {
+        Some(command) => Ok(command),
+        None => Err(WordsFault::Usage),
     }
 }

@@ -1,0 +1,9 @@
+pub mod Sent
+pub mod Lines
+pub mod Faults
+pub mod Disks
+pub mod Checked
+pub mod CheckedDisk
+pub mod Merged
+pub mod Dumped
+pub mod DumpedDisk

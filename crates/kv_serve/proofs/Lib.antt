@@ -18,4 +18,3 @@ pub mod BeginLemmas
 pub mod KeyLemmas
 pub mod FullLemmas
 pub mod CauseLemmas
-pub mod WordsLemmas

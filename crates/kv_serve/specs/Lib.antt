@@ -6,6 +6,4 @@ pub mod Group
 pub mod Laws
 pub mod Outcome
 pub mod Run
-pub mod Words
-pub mod Asked
 pub mod StatusLine

@@ -14,23 +14,23 @@ mod room;
 #[cfg(test)]
 mod row_tests;
 mod run;
-mod said;
 mod serve;
 mod serve_disk;
 mod status;
+mod status_text;
 #[cfg(test)]
 mod stop_tests;
 #[cfg(test)]
-mod test_run;
-mod status_text;
-mod top;
-mod words;
+mod status_tests;
 #[cfg(test)]
-mod words_tests;
+mod report_tests;
+#[cfg(test)]
+mod test_run;
+mod top;
 
 pub use ended::{Ended, Endings, Refused};
 pub use kv_recover::OpenFault;
 pub use kv_session::Ending;
+pub use kv_words::{Command, WordsFault, read_words};
 pub use status_text::status_line;
 pub use top::run_words;
-pub use words::{Command, WordsFault, read_words};

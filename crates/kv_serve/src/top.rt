@@ -1,17 +1,17 @@
 ghost use Rattle.std.specs.Prelude.{◌≡◌, ℕ, ◌⊎◌, List, [], map, string_bytes, None};
 ghost use Rattle.kv_base.specs.Limits.{AreLimits};
 ghost use Rattle.kv_serve.specs.Serve.{IsDone, outside_of};
-ghost use Rattle.kv_serve.specs.Words.{Asked, Asks, Serving};
+ghost use Rattle.kv_words.specs.Words.{Asked, Asks, Serving};
 
 use crate::ended::{Ended, Endings, Refused};
 use crate::refuse::not_served;
 use crate::report::{check, dump};
 use crate::room::Room;
 use crate::serve_disk::{Names, serve_disk};
-use crate::words::{Command, WordsFault, read_words};
 use kv_base::{Limits, Sink, Source};
 use kv_disk::Disk;
 use kv_site::{Site, TakeFault};
+use kv_words::{Command, WordsFault, read_words};
 use std::alloc::Global;
 
 /// Carries out a command, whose words don't include the program's name: `serve` over one worker,

@@ -1,8 +1,8 @@
 -- What all words say is what was heard, and what the rest says behind that.
 use Rattle.std.proofs.Common.{◌≡◌, drop, map}
 use Rattle.std.specs.String.{string_bytes}
-use Rattle.kv_serve.specs.Words.{all_said, nothing_said}
-use Rattle.kv_serve.proofs.said.hear_all.Given as goal
+use Rattle.kv_words.specs.Words.{all_said, nothing_said}
+use Rattle.kv_words.proofs.said.hear_all.Given as goal
 
 abbrev pub invariant-loop-word : goal.invariant-loop-word
 invariant-loop-word l = all_said nothing_said (map (λ word. string_bytes word) l.words)

@@ -9,7 +9,7 @@ use Rattle.std.proofs.lemmas.Bool.Decides.{eqb_tells}
 use Rattle.std.proofs.lemmas.Option.{same_Some}
 use Rattle.kv_base.specs.Limits.{AreLimits}
 use Rattle.kv_base.specs.declared.limits.Limits.{Limits}
-use Rattle.kv_serve.specs.Words.{Text, Said, AreLimitsOf, IsLimit, all_said, one_more, rest_behind}
+use Rattle.kv_words.specs.Words.{Text, Said, AreLimitsOf, IsLimit, all_said, one_more, rest_behind}
 
 -- what stands behind the front of a word, if the word begins with it
 rest-front : (front rest : Text) → rest_behind front (front ++ rest) ≡ Some rest
@@ -78,15 +78,17 @@ said-none f xs i x said at is =
     ap (all_said said) (drop-at (map f xs) i (f x) (get-mapped f xs i x at))
     ∙ ap (λ o. option_and_then (λ next. all_said next (drop (suc i) (map f xs))) o) is
 
-limit-low : (most otherwise : ℕ) (text : Option Text) (number : ℕ) → 1 ≤ otherwise
-    → IsLimit most otherwise text number → 1 ≤ number
-limit-low most otherwise None number low is = omega (arith, is, low)
-limit-low most otherwise (Some text) number low is = is.low
+limit-low : (most otherwise : ℕ) (texts : List Text) (number : ℕ) → 1 ≤ otherwise
+    → IsLimit most otherwise texts number → 1 ≤ number
+limit-low most otherwise [] number low is = omega (arith, is, low)
+limit-low most otherwise (text ∷ []) number low is = is.low
+limit-low most otherwise (text ∷ other ∷ texts) number low is = absurd is
 
-limit-high : (most otherwise : ℕ) (text : Option Text) (number : ℕ) → otherwise ≤ most
-    → IsLimit most otherwise text number → number ≤ most
-limit-high most otherwise None number high is = omega (arith, is, high)
-limit-high most otherwise (Some text) number high is = is.high
+limit-high : (most otherwise : ℕ) (texts : List Text) (number : ℕ) → otherwise ≤ most
+    → IsLimit most otherwise texts number → number ≤ most
+limit-high most otherwise [] number high is = omega (arith, is, high)
+limit-high most otherwise (text ∷ []) number high is = is.high
+limit-high most otherwise (text ∷ other ∷ texts) number high is = absurd is
 
 -- limits that words name are limits that a store can be opened with
 pub limits-good : (said : Said) (limits : Limits) → AreLimitsOf said limits → AreLimits limits

@@ -1,8 +1,8 @@
 ghost use Rattle.std.specs.Prelude.{◌≡◌, ◌++◌, ℕ, List, None, Some, map, IsOk, MatchOption, MatchResult};
 ghost use Rattle.std.specs.Prelude.{string_bytes, IsTrue, true, false};
-ghost use Rattle.kv_serve.specs.Words.{Said, all_said, is_dashed, is_plain, nothing_said, one_more};
-ghost use Rattle.kv_serve.specs.Words.{name_said, next_said, option_said, rest_behind, with_plain};
-ghost use Rattle.kv_serve.specs.Words.{with_value, word_said};
+ghost use Rattle.kv_words.specs.Words.{Said, all_said, is_dashed, is_plain, nothing_said, one_more};
+ghost use Rattle.kv_words.specs.Words.{name_said, next_said, option_said, rest_behind, with_plain};
+ghost use Rattle.kv_words.specs.Words.{with_value, word_said};
 
 use crate::words::WordsFault;
 use std::alloc::Global;
@@ -22,10 +22,10 @@ pub enum OptionName {
 pub struct Heard<'a> {
     /// The plain words, in order.
     pub plain: Vec<&'a str>,
-    /// The value of `--slots`.
-    pub slots: Option<&'a str>,
-    /// The value of `--cache`.
-    pub cache: Option<&'a str>,
+    /// The values of `--slots`, in order.
+    pub slots: Vec<&'a str>,
+    /// The values of `--cache`, in order.
+    pub cache: Vec<&'a str>,
     /// The option whose value is the next word.
     pub waits: Option<OptionName>,
     /// Whether all later words are plain.
@@ -34,15 +34,14 @@ pub struct Heard<'a> {
 
 impl<'a> Model for Heard<'a> {
     ghost use Rattle.std.specs.Prelude.{map};
-    ghost use Rattle.std.specs.Option.{option_map};
-    ghost use Rattle.kv_serve.specs.Words.{Said};
+    ghost use Rattle.kv_words.specs.Words.{Said};
 
     ghost Value = { Said };
 
     ghost view = { λ heard. record {
       plain = map (λ word. word.now) heard.plain.items;
-      slots = option_map (λ word. word.now) heard.slots;
-      cache = option_map (λ word. word.now) heard.cache;
+      slots = map (λ word. word.now) heard.slots.items;
+      cache = map (λ word. word.now) heard.cache.items;
       waits = heard.waits;
       trailing = heard.trailing;
     } };
@@ -70,8 +69,8 @@ impl<'a> Heard<'a> {
     {
         Heard {
             plain: Vec::new(alloc),
-            slots: None,
-            cache: None,
+            slots: Vec::new(alloc),
+            cache: Vec::new(alloc),
             waits: None,
             trailing: false,
         }
@@ -90,16 +89,18 @@ impl<'a> Heard<'a> {
 
     /// Hears the value of an option.
     fn hear_value(&mut self, name: OptionName, value: &'a str) -> Result<(), WordsFault>
-        ensures { MatchResult result (λ _. with_value name value.now self.old ≡ Some self.new)
-            (λ fault. with_value name value.now self.old ≡ None) }
+        ensures { MatchResult result (λ _. self.new ≡ with_value name value.now self.old)
+            (λ fault. fault ≡ WordsFault.NoMemory) }
     {
-        match name {
-            OptionName::Slots if self.slots.is_none() => self.slots = Some(value),
-            OptionName::Cache if self.cache.is_none() => self.cache = Some(value),
-            _ => return Err(WordsFault::Usage),
-        }
+        let pushed = match name {
+            OptionName::Slots => self.slots.push(value),
+            OptionName::Cache => self.cache.push(value),
+        };
         self.waits = None;
-        Ok(())
+        match pushed {
+            Ok(()) => Ok(()),
+            Err(_) => Err(WordsFault::NoMemory),
+        }
     }
 
     /// Hears an option whose value is the next word.
@@ -120,7 +121,7 @@ impl<'a> Heard<'a> {
     /// Hears an option, with its value or without.
     fn hear_option(&mut self, word: &'a str) -> Result<(), WordsFault>
         ensures { MatchResult result (λ _. option_said word.now self.old ≡ Some self.new)
-            (λ fault. option_said word.now self.old ≡ None) }
+            (λ fault. fault ≡ WordsFault.Usage → option_said word.now self.old ≡ None) }
     {
         if let Some(value) = behind(word, "--slots=") {
             self.hear_value(OptionName::Slots, value)

@@ -1,41 +1,39 @@
 -- The words of a command.
 use Rattle.std.specs.Prelude.{◌≡◌, ◌≤◌, ◌^◌, ℕ, ◌==◌, ◌||◌, ◌&&◌, not, List, [], ◌∷◌, ◌++◌, length, codes}
-use Rattle.std.specs.Prelude.{Bool, true, false, Option, None, Some, is_some, if◌then◌else◌}
+use Rattle.std.specs.Prelude.{Bool, true, false, Option, None, Some, if◌then◌else◌}
 use Rattle.std.specs.Option.{option_map_or}
 use Rattle.std.specs.Prelude.{option_and_then}
 use Rattle.std.specs.Str.{bytes_eq}
 use Rattle.std.specs.Str.Parse.{IsNumeral, digits_value, without_leading_plus}
 use Rattle.kv_base.specs.declared.limits.Limits.{Limits}
-use Rattle.kv_serve.specs.declared.said.OptionName.{OptionName}
-use Rattle.kv_serve.specs.declared.said.OptionName.TheVariants.{Slots, Cache}
+use Rattle.kv_words.specs.declared.said.OptionName.{OptionName}
+use Rattle.kv_words.specs.declared.said.OptionName.TheVariants.{Slots, Cache}
 
 -- a word, as its bytes
 abbrev pub Text : Type 0
 Text = List ℕ
 
--- what the words behind a command say: the plain ones in order, the values of the options, the
--- option whose value comes next, and whether all later words are plain
+-- what the words behind a command say: the plain ones in order, the values of each option in order,
+-- the option whose value comes next, and whether all later words are plain
 pub record Said : Type 0 where
   pub plain : List Text
-  pub slots : Option Text
-  pub cache : Option Text
+  pub slots : List Text
+  pub cache : List Text
   pub waits : Option OptionName
   pub trailing : Bool
 
 -- before the first of them
 abbrev pub nothing_said : Said
-nothing_said = record { plain = []; slots = None; cache = None; waits = None; trailing = false }
+nothing_said = record { plain = []; slots = []; cache = []; waits = None; trailing = false }
 
 -- one plain word more
 abbrev pub with_plain : Text → Said → Said
 with_plain word said = record said { plain = said.plain ++ word ∷ [] }
 
--- the value of an option, which may come once
-abbrev pub with_value : OptionName → Text → Said → Option Said
-with_value Slots value said = if is_some said.slots then None
-    else Some (record said { slots = Some value; waits = None })
-with_value Cache value said = if is_some said.cache then None
-    else Some (record said { cache = Some value; waits = None })
+-- one value of an option more, for which none waits then
+abbrev pub with_value : OptionName → Text → Said → Said
+with_value Slots value said = record said { slots = said.slots ++ value ∷ []; waits = None }
+with_value Cache value said = record said { cache = said.cache ++ value ∷ []; waits = None }
 
 -- what stands behind the front in a word that begins with it
 abbrev pub rest_behind : Text → Text → Option Text
@@ -60,9 +58,9 @@ name_said word said = if bytes_eq word (codes "--slots") then Some (record said 
 
 -- an option with its value, as --slots=5, or else one without
 abbrev pub option_said : Text → Said → Option Said
-option_said word said = option_map_or (λ value. with_value Slots value said)
+option_said word said = option_map_or (λ value. Some (with_value Slots value said))
     (rest_behind (codes "--slots=") word)
-    (option_map_or (λ value. with_value Cache value said) (rest_behind (codes "--cache=") word)
+    (option_map_or (λ value. Some (with_value Cache value said)) (rest_behind (codes "--cache=") word)
     (name_said word said))
 
 -- a word where none was waited for: a plain one, --, or an option
@@ -73,7 +71,7 @@ word_said word said = if is_plain word then Some (with_plain word said)
 
 -- a word where that of an option is waited for, or not
 abbrev pub next_said : Option OptionName → Text → Said → Option Said
-next_said (Some name) word said = if is_dashed word then None else with_value name word said
+next_said (Some name) word said = if is_dashed word then None else Some (with_value name word said)
 next_said None word said = word_said word said
 
 -- one word more; none may be empty
@@ -98,19 +96,20 @@ pub record IsNumberIn (least most : ℕ) (text : Text) (number : ℕ) : Type 0 w
   pub low : least ≤ number
   pub high : number ≤ most
 
--- the value of an option from 1 on, or what stands for it where it isn't there
-abbrev pub IsLimit : ℕ → ℕ → Option Text → ℕ → Type 0
-IsLimit most otherwise None number = number ≡ otherwise
-IsLimit most otherwise (Some text) number = IsNumberIn 1 most text number
+-- the number from 1 on that an option names, once, or what stands for it where it isn't there
+abbrev pub IsLimit : ℕ → ℕ → List Text → ℕ → Type 0
+IsLimit most otherwise [] number = number ≡ otherwise
+IsLimit most otherwise (text ∷ []) number = IsNumberIn 1 most text number
+IsLimit most otherwise (text ∷ other ∷ texts) number = ⊥
 
 -- the limits that the options name; else 2^20 slots of each class and 256 pages
 pub record AreLimitsOf (said : Said) (limits : Limits) : Type 0 where
   pub slots : IsLimit (2 ^ 24) (2 ^ 20) said.slots limits.slots
   pub cache : IsLimit 1024 256 said.cache limits.cache
 
--- no option is there, nor waits for its value
+-- no option is there
 abbrev pub HasNoOption : Said → Type 0
-HasNoOption said = (said.slots ≡ None) × (said.cache ≡ None)
+HasNoOption said = (said.slots ≡ []) × (said.cache ≡ [])
 
 -- the words of a session over a worker: the folder of its store, its limits, and where the bytes come
 -- from and go to

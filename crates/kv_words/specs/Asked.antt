@@ -1,7 +1,7 @@
 -- The command that was read from words.
-use Rattle.kv_serve.specs.declared.words.Command.{Command}
-use Rattle.kv_serve.specs.declared.words.Command.TheVariants.{Serve, Check, Dump}
-use Rattle.kv_serve.specs.Words.{Asked, serve, check, dump}
+use Rattle.kv_words.specs.declared.words.Command.{Command}
+use Rattle.kv_words.specs.declared.words.Command.TheVariants.{Serve, Check, Dump}
+use Rattle.kv_words.specs.Words.{Asked, serve, check, dump}
 
 -- what it asks
 abbrev pub asked_by : Command → Asked

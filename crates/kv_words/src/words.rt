@@ -1,7 +1,7 @@
-ghost use Rattle.std.specs.Prelude.{◌≡◌, ℕ, map, option_map, string_bytes, MatchOption, MatchResult};
-ghost use Rattle.kv_serve.specs.Asked.{asked_by};
-ghost use Rattle.kv_serve.specs.Words.{Asked, Asks, AreLimitsOf, IsLimit, IsNumberIn, Reporting};
-ghost use Rattle.kv_serve.specs.Words.{Says, SaysReport, SaysServe, Serving, first_word};
+ghost use Rattle.std.specs.Prelude.{◌≡◌, ℕ, map, string_bytes, MatchOption, MatchResult};
+ghost use Rattle.kv_words.specs.Asked.{asked_by};
+ghost use Rattle.kv_words.specs.Words.{Asked, Asks, AreLimitsOf, IsLimit, IsNumberIn, Reporting};
+ghost use Rattle.kv_words.specs.Words.{Says, SaysReport, SaysServe, Serving, first_word};
 
 use crate::said::{Heard, hear_all};
 use kv_base::Limits;
@@ -62,7 +62,7 @@ pub enum WordsFault {
 }
 
 impl From<AllocError> for WordsFault {
-    ghost use Rattle.kv_serve.specs.declared.words.WordsFault.TheVariants.{NoMemory};
+    ghost use Rattle.kv_words.specs.declared.words.WordsFault.TheVariants.{NoMemory};
 
     ghost from_gives = { λ _ fault. fault ≡ NoMemory };
 
@@ -82,15 +82,16 @@ fn number_in(text: &str, least: u32, most: u32) -> Option<u32>
     }
 }
 
-/// The limit that an option names.
-fn limit_in(text: Option<&str>, most: u32, usual: u32) -> Option<u32>
-    ensures { let value = option_map (λ word. word.now) text in
-        MatchOption result ((number : ℕ) → IsLimit most usual value number → ⊥)
-        (λ number. IsLimit most usual value number) }
+/// The limit that the values of an option name.
+fn limit_in(values: &[&str], most: u32, usual: u32) -> Option<u32>
+    ensures { let texts = map (λ value. value.now) values.now in
+        MatchOption result ((number : ℕ) → IsLimit most usual texts number → ⊥)
+        (IsLimit most usual texts) }
 {
-    match text {
-        None => Some(usual),
-        Some(text) => number_in(text, 1, most),
+    match values {
+        [] => Some(usual),
+        [value] => number_in(value, 1, most),
+        _ => None,
     }
 }
 
@@ -99,8 +100,8 @@ fn limits_of(heard: &Heard) -> Option<Limits>
     ensures { MatchOption result ((limits : Limits) → AreLimitsOf heard.now limits → ⊥)
         (AreLimitsOf heard.now) }
 {
-    let slots = limit_in(heard.slots, MOST_SLOTS, LIMITS.slots)?;
-    let cache = limit_in(heard.cache, MOST_PAGES, LIMITS.cache)?;
+    let slots = limit_in(heard.slots.as_slice(), MOST_SLOTS, LIMITS.slots)?;
+    let cache = limit_in(heard.cache.as_slice(), MOST_PAGES, LIMITS.cache)?;
     Some(Limits { slots, cache })
 }
 
@@ -132,7 +133,7 @@ fn reported<'a>(heard: &Heard<'a>) -> Option<(&'a str, u32)>
         return None;
     };
     let workers = number_in(workers, 1, MOST_WORKERS)?;
-    if heard.slots.is_some() || heard.cache.is_some() {
+    if !heard.slots.is_empty() || !heard.cache.is_empty() {
         return None;
     }
     Some((folder, workers))

@@ -182,16 +182,16 @@ lines-cause d disks count NoMemory same is = tt
 
 -- how far the report came where the items weren't listed
 pub until-listed : {D : Type 0} (d : Ghosts D) (disks : List D) (now : Option (List ℕ))
-    (fault : ToolFault) → IsListFault fault → DumpsUntil d disks now now fault
-until-listed d disks now (Store worker fault) is = Takes-nil now
+    (fault : ToolFault) → IsListFault d disks fault → DumpsUntil d disks now now fault
+until-listed d disks now (Store worker fault) is = (Takes-nil now, is)
 until-listed d disks now (DiskFault worker) is = absurd is
 until-listed d disks now SinkFault is = absurd is
 until-listed d disks now NoMemory is = inl (Takes-nil now)
 
 -- how far it came where lines weren't written
 pub until-lines : {D : Type 0} (d : Ghosts D) (disks : List D) (before now : Option (List ℕ))
-    (count : ℕ) (fault : ToolFault) → IsLinesFault count fault → DumpsFront d disks before now
-    → DumpsUntil d disks before now fault
+    (count : ℕ) (fault : ToolFault) → IsLinesFault count fault
+    → (IsTrue d.tells → DumpsFront d disks before now) → DumpsUntil d disks before now fault
 until-lines d disks before now count (Store worker fault) is front = absurd is
 until-lines d disks before now count (DiskFault worker) is front = front
 until-lines d disks before now count SinkFault is front = front

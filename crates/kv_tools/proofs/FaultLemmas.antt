@@ -23,9 +23,9 @@ counts_as T U d olds news fault counts = record {
 }
 
 -- the sink has no fault where the items weren't listed
-pub list-sink : (T : Type 0) (fault : ToolFault) (count : ℕ) → IsListFault fault
-    → count ≡ sink_faults {T = T} (Err fault) count
-list-sink T (Store worker fault) count is = refl
-list-sink T (DiskFault worker) count is = absurd is
-list-sink T SinkFault count is = absurd is
-list-sink T NoMemory count is = refl
+pub list-sink : {D : Type 0} (T : Type 0) (d : Ghosts D) (disks : List D) (fault : ToolFault)
+    (count : ℕ) → IsListFault d disks fault → count ≡ sink_faults {T = T} (Err fault) count
+list-sink T d disks (Store worker fault) count is = refl
+list-sink T d disks (DiskFault worker) count is = absurd is
+list-sink T d disks SinkFault count is = absurd is
+list-sink T d disks NoMemory count is = refl

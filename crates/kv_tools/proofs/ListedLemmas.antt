@@ -11,6 +11,7 @@ use Rattle.kv_disk.specs.declared.disk.Disk.{Ghosts}
 use Rattle.kv_model.specs.Items.{IsLess}
 use Rattle.kv_model.specs.Layout.{all_classes}
 use Rattle.kv_model.specs.Reading.{Copy, IsKept, slot_at}
+use Rattle.kv_model.specs.Recovery.{OpensAs}
 use Rattle.kv_model.proofs.ContainsLemmas.{Contains-cons, Contains-first, Contains-behind, All-members}
 use Rattle.kv_recover.specs.declared.entries.Kept.{Kept}
 use Rattle.kv_recover.specs.Listed.{AreKept, KeysRise, IsSlabPlace}
@@ -18,6 +19,7 @@ use Rattle.kv_recover.specs.Causes.{HasMakeCause}
 use Rattle.kv_tools.specs.declared.fault.ToolFault.{ToolFault}
 use Rattle.kv_tools.specs.declared.fault.ToolFault.TheVariants.{Store, DiskFault, SinkFault, NoMemory}
 use Rattle.kv_tools.specs.declared.merge.Listed.{Listed}
+use Rattle.kv_tools.specs.Disks.{AreStores}
 use Rattle.kv_tools.specs.Dumped.{AreItemsOf, ArePlaced, HasKey, IsKeptOn}
 use Rattle.kv_tools.specs.DumpedDisk.{ListsDisk, HasListCause, IsListFault}
 use Rattle.kv_tools.specs.Faults.{HasReportCause, disk_faults}
@@ -59,6 +61,7 @@ items_of-none d disks = record {
   each = λ item has. absurd (omega (arith, has.1));
   every = λ worker disk key copy below. absurd (omega (arith, below));
   rising = tt;
+  stores = record { each = λ worker disk below. absurd (omega (arith, below)) };
 }
 
 pub placed-none : ArePlaced 0 []
@@ -141,6 +144,19 @@ module _ {D : Type 0} (d : Ghosts D) (disks : List D) (worker : ℕ) (disk mid :
       ∙ ap (λ key. owner_of key (length disks)) key_is ∙ theirs.1.found.owned in
       absurd (omega (arith, (placed item has).0, here))
 
+  stores_more : AreStores d disks worker → AreStores d disks (worker + 1)
+  stores_more stores = record {
+    each = λ other x below at_x. elim (cases_lt other worker) [
+      | inl earlier ↦ stores.each other x earlier at_x
+      | inr last ↦
+          let here : other ≡ worker = omega (arith, below, last) in
+          let x_is : x ≡ disk = same_Some x disk (sym at_x ∙ ap (slice_get disks) here ∙ at) in
+          subst (λ w. OpensAs all_classes (d.seen x) w (length disks)) (sym here)
+          (subst (λ (i : Image). OpensAs all_classes i worker (length disks))
+          (same ∙ ap d.seen (sym x_is)) (lists.opens tells))
+    ];
+  }
+
   pub items_of-next : AreItemsOf d disks worker before → ArePlaced worker before
       → AreItemsOf d disks (worker + 1) now
   items_of-next are placed = record {
@@ -148,6 +164,7 @@ module _ {D : Type 0} (d : Ghosts D) (disks : List D) (worker : ℕ) (disk mid :
     every = every_is are;
     rising = lists.merged.rising are.rising (rises-mapped worker lists.list kept_was.rising)
         (are_apart are placed);
+    stores = stores_more are.stores;
   }
 
 -- the cause of a disk's refusal is one of the report
@@ -168,12 +185,14 @@ list-cause d disks worker disk mid (DiskFault other) at same cause = absurd caus
 list-cause d disks worker disk mid SinkFault at same cause = absurd cause
 list-cause d disks worker disk mid NoMemory at same cause = tt
 
-pub list-fault : {D : Type 0} (d : Ghosts D) (mid : D) (worker workers : ℕ) (fault : ToolFault)
-    → HasListCause d mid worker workers fault → IsListFault fault
-list-fault d mid worker workers (Store other fault) cause = tt
-list-fault d mid worker workers (DiskFault other) cause = absurd cause
-list-fault d mid worker workers SinkFault cause = absurd cause
-list-fault d mid worker workers NoMemory cause = tt
+pub list-fault : {D : Type 0} (d : Ghosts D) (disks : List D) (mid : D) (worker workers : ℕ)
+    (fault : ToolFault) → (IsTrue d.tells → AreStores d disks worker)
+    → HasListCause d mid worker workers fault → IsListFault d disks fault
+list-fault d disks mid worker workers (Store other fault) stores cause = λ tells.
+    subst (AreStores d disks) (sym cause.0) (stores tells)
+list-fault d disks mid worker workers (DiskFault other) stores cause = absurd cause
+list-fault d disks mid worker workers SinkFault stores cause = absurd cause
+list-fault d disks mid worker workers NoMemory stores cause = tt
 
 -- no other disk has a fault
 pub list-others : {D : Type 0} (T : Type 0) (d : Ghosts D) (mid : D) (worker workers : ℕ)

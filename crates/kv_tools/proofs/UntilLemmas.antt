@@ -8,10 +8,9 @@ use Rattle.kv_tools.specs.declared.fault.ToolFault.{ToolFault}
 use Rattle.kv_tools.specs.declared.fault.ToolFault.TheVariants.{SinkFault}
 use Rattle.kv_tools.specs.declared.merge.Listed.{Listed}
 use Rattle.kv_tools.specs.Disks.{ReadsAll, CountsAll}
-use Rattle.kv_tools.specs.Dumped.{AreItemsOf, Dumps, DumpsFront, DumpsUntil, lines_of}
-use Rattle.kv_tools.specs.DumpedDisk.{IsLinesFault}
+use Rattle.kv_tools.specs.Dumped.{AreItemsOf, Dumps, DumpsFront, lines_of}
 use Rattle.kv_tools.specs.Sent.{Puts, TakesFront, TakesSome}
-use Rattle.kv_tools.proofs.DumpedLemmas.{lines-were, until-lines}
+use Rattle.kv_tools.proofs.DumpedLemmas.{lines-were}
 
 module _ {D : Type 0} (d : Ghosts D) (disks mids : List D) (items : List Listed)
     (waited : List ℕ) (empty : waited ≡ []) (tells : IsTrue d.tells) (reads : ReadsAll d disks mids)
@@ -20,21 +19,20 @@ module _ {D : Type 0} (d : Ghosts D) (disks mids : List D) (items : List Listed)
   lines-are = ap (λ w. w ++ lines_of d mids items) empty
       ∙ lines-were d disks mids items tells reads are.each
 
-  -- lines weren't written
-  pub until-put : (before now : Option (List ℕ)) (count : ℕ) (fault : ToolFault)
-      → IsLinesFault count fault → TakesSome before now (waited ++ lines_of d mids items)
-      → DumpsUntil d disks before now fault
-  until-put before now count fault is took = until-lines d disks before now count fault is (record {
+  -- not all lines were put
+  pub front-put : (before now : Option (List ℕ))
+      → TakesSome before now (waited ++ lines_of d mids items) → DumpsFront d disks before now
+  front-put before now took = record {
     items = items;
     items_are = are;
     took = subst (TakesSome before now) lines-are took;
-  })
+  }
 
   -- what waited at last wasn't sent whole
-  pub until-flushed : (before between now : Option (List ℕ)) (waits : List ℕ)
+  pub front-flushed : (before between now : Option (List ℕ)) (waits : List ℕ)
       → Puts before between waited waits (lines_of d mids items) → TakesFront between now waits
       → DumpsFront d disks before now
-  until-flushed before between now waits puts front = record {
+  front-flushed before between now waits puts front = record {
     items = items;
     items_are = are;
     took = record {

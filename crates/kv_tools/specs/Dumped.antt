@@ -13,6 +13,7 @@ use Rattle.kv_recover.specs.Listed.{IsSlabPlace, copy_with}
 use Rattle.kv_tools.specs.declared.fault.ToolFault.{ToolFault}
 use Rattle.kv_tools.specs.declared.fault.ToolFault.TheVariants.{Store, DiskFault, SinkFault, NoMemory}
 use Rattle.kv_tools.specs.declared.merge.Listed.{Listed}
+use Rattle.kv_tools.specs.Disks.{AreStores}
 use Rattle.kv_tools.specs.Lines.{item_line}
 use Rattle.kv_tools.specs.Merged.{Rises}
 use Rattle.kv_tools.specs.Sent.{TakesSome}
@@ -55,7 +56,8 @@ abbrev pub HasKey : List Listed → ℕ → List ℕ → Type 0
 HasKey items worker key = (item : Listed) × Contains items item × (item.worker ≡ worker)
     × (item.kept.key ≡ key)
 
--- the items are those that the first disks keep, so many, by rising key
+-- the items are those that the first disks keep, so many, by rising key, and each of these disks
+-- opens as its worker's store
 pub record AreItemsOf {D : Type 0} (d : Ghosts D) (disks : List D) (count : ℕ)
     (items : List Listed) : Type 0 where
   pub each : (item : Listed) → Contains items item → IsKeptOn d disks item
@@ -64,6 +66,7 @@ pub record AreItemsOf {D : Type 0} (d : Ghosts D) (disks : List D) (count : ℕ)
       → IsKept (slot_at all_classes (d.seen disk)) worker (length disks) key copy
       → HasKey items worker key
   pub rising : Rises items
+  pub stores : AreStores d disks count
 
 -- each item has the number of a disk below this one, and stands in a slot that a slab may have
 abbrev pub ArePlaced : ℕ → List Listed → Type 0
@@ -84,10 +87,13 @@ pub record DumpsFront {D : Type 0} (d : Ghosts D) (disks : List D)
   pub items_are : AreItemsOf d disks (length disks) items
   pub took : TakesSome before now (lines_of d disks items)
 
--- how far the report came: to nothing where a disk was refused, or to some byte
+-- how far the report came: to nothing where a disk was refused, the first one that is no store of
+-- its worker, or to some byte
 abbrev pub DumpsUntil : {D : Type 0} → Ghosts D → List D → Option (List ℕ) → Option (List ℕ)
     → ToolFault → Type 0
 DumpsUntil d disks before now (Store worker fault) = Takes before now []
-DumpsUntil d disks before now (DiskFault worker) = DumpsFront d disks before now
-DumpsUntil d disks before now SinkFault = DumpsFront d disks before now
-DumpsUntil d disks before now NoMemory = Takes before now [] ⊎ DumpsFront d disks before now
+    × (IsTrue d.tells → AreStores d disks worker)
+DumpsUntil d disks before now (DiskFault worker) = IsTrue d.tells → DumpsFront d disks before now
+DumpsUntil d disks before now SinkFault = IsTrue d.tells → DumpsFront d disks before now
+DumpsUntil d disks before now NoMemory = Takes before now []
+    ⊎ (IsTrue d.tells → DumpsFront d disks before now)

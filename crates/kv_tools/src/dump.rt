@@ -99,8 +99,8 @@ pub fn dump_all<D: Disk, Si: Sink>(
     requires limit { length disks.old ≤ 16 }
     ensures ok { IsTrue D.tells → OnOk result (Dumps ⟦<D as Disk>⟧ disks.old (Si.held out.old)
         (Si.held out.new)) }
-    ensures err { IsTrue D.tells → IfErr result (DumpsUntil ⟦<D as Disk>⟧ disks.old
-        (Si.held out.old) (Si.held out.new)) }
+    ensures err { IfErr result (DumpsUntil ⟦<D as Disk>⟧ disks.old (Si.held out.old)
+        (Si.held out.new)) }
     ensures cause { IfErr result (HasReportCause ⟦<D as Disk>⟧ disks.old) }
     ensures reads { ReadsAll ⟦<D as Disk>⟧ disks.old disks.new }
     ensures faults { CountsAll ⟦<D as Disk>⟧ disks.old disks.new result }

@@ -41,7 +41,7 @@ pub fn list_all<D: Disk>(alloc: Global, disks: &mut [D]) -> Result<Vec<Listed>, 
     ensures items { IsTrue D.tells → IfOk result (λ listed. AreItemsOf ⟦<D as Disk>⟧ disks.old
         (length disks.old) listed.items) }
     ensures places { IfOk result (λ listed. ArePlaced (length disks.old) listed.items) }
-    ensures err { IfErr result IsListFault }
+    ensures err { IfErr result (IsListFault ⟦<D as Disk>⟧ disks.old) }
     ensures cause { IfErr result (HasReportCause ⟦<D as Disk>⟧ disks.old) }
     ensures reads { ReadsAll ⟦<D as Disk>⟧ disks.old disks.new }
     ensures faults { CountsAll ⟦<D as Disk>⟧ disks.old disks.new result }

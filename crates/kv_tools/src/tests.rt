@@ -2,7 +2,8 @@ ghost use Rattle.std.specs.Prelude.{◌≤◌, ◌<◌};
 
 use crate::{ToolFault, check_all, dump_all};
 use kv_base::{Calls, MemSink, NoMemory};
-use kv_disk::{Disk, PlainDisk};
+use kv_disk::{Disk, MemDisk, PlainDisk};
+use kv_recover::OpenFault;
 use kv_slot::{put_head, put_item, put_tombstone};
 use std::alloc::Global;
 use std::test::*;
@@ -29,12 +30,17 @@ fn disk_with(
     Ok(disk)
 }
 
-// The report of a disk's slots.
-fn checked(alloc: Global, disk: PlainDisk) -> Result<MemSink, ToolFault> {
+// The count of a disk's slots is this text, and is written in one piece.
+fn is_counted(alloc: Global, disk: PlainDisk, wanted: &str) -> Result<bool, ToolFault> {
     let mut disks = [disk];
-    let mut out = MemSink::new(alloc, ROOM, Calls::none())?;
+    let mut out = MemSink::new(alloc, ROOM, Calls::of(alloc, &[2])?)?;
     check_all(alloc, &mut disks, &mut out)?;
-    Ok(out)
+    Ok(out.taken() == wanted.as_bytes())
+}
+
+// The same of a disk of worker 0 of 1 with this page.
+fn is_page_counted(alloc: Global, page: &[u8; 4096], wanted: &str) -> Result<bool, ToolFault> {
+    is_counted(alloc, disk_with(alloc, 0, 1, page)?, wanted)
 }
 
 // Two items at the stamps 5 and 2, as they stand after a, b and c were put, a was deleted, and c was
@@ -88,18 +94,12 @@ disk 0 floor 18446744073709551615 keys 0
 #[test]
 fn each_kind_of_slot_is_counted(rt: HostRuntime) -> Result<(), Fail> {
     let alloc = rt.alloc();
-    let rows = [
-        (two_items(), TWO_ITEMS),
-        (damaged(), DAMAGED),
-        (stale(), STALE),
-        ([255; 4096], ALL_BAD),
-    ];
-    for (page, wanted) in rows {
-        let out = checked(alloc, disk_with(alloc, 0, 1, &page)?)?;
-        assert!(rt; out.taken() == wanted.as_bytes(), "the report");
-    }
-    let out = checked(alloc, PlainDisk::new(alloc, 0)?)?;
-    assert!(rt; out.taken() == b"disk 0 new\n".as_slice(), "a new disk");
+    assert!(rt; is_page_counted(alloc, &two_items(), TWO_ITEMS)?, "items");
+    assert!(rt; is_page_counted(alloc, &damaged(), DAMAGED)?, "bad slots");
+    assert!(rt; is_page_counted(alloc, &stale(), STALE)?, "stale items");
+    assert!(rt; is_page_counted(alloc, &[255; 4096], ALL_BAD)?, "no slot");
+    let new = PlainDisk::new(alloc, 0)?;
+    assert!(rt; is_counted(alloc, new, "disk 0 new\n")?, "a new disk");
     Ok(())
 }
 
@@ -116,61 +116,145 @@ fn two_disks(alloc: Global) -> Result<[PlainDisk; 2], ToolFault> {
     Ok([first, second])
 }
 
+// What they keep.
 const DUMP: &[u8] = b"1 61 0f31\n7 62 32\n3 63 \n";
+
+// The lines of the first of them.
+const FIRST: &[u8] =
+    b"disk 0 class 1 end 2 kept 2 stale 0 foreign 0 tomb 0 never 0 torn 0 bad 0\ndisk 0 floor 3 keys 2\n";
+
+// What became of a report: it is whole, a disk was refused after a failed call of it, a value
+// couldn't be read, the sink failed, or something else.
+fn outcome(result: Result<(), ToolFault>) -> u32 {
+    match result {
+        Ok(()) => 0,
+        Err(
+            ToolFault::Store {
+                fault: OpenFault::DiskFault,
+                ..
+            },
+        ) => 1,
+        Err(ToolFault::DiskFault { .. }) => 2,
+        Err(ToolFault::SinkFault) => 3,
+        Err(_) => 4,
+    }
+}
+
+// What became of the list of two disks' items on a sink with so much room, and what the sink has.
+fn dumped(alloc: Global, room: usize, failing: Calls) -> Result<(u32, MemSink), ToolFault> {
+    let mut disks = two_disks(alloc)?;
+    let mut out = MemSink::new(alloc, room, failing)?;
+    let result = dump_all(alloc, &mut disks, &mut out);
+    Ok((outcome(result), out))
+}
 
 #[test]
 fn all_items_are_listed_by_rising_key(rt: HostRuntime) -> Result<(), Fail> {
     let alloc = rt.alloc();
-    let mut disks = two_disks(alloc)?;
-    let mut out = MemSink::new(alloc, ROOM, Calls::none())?;
-    dump_all(alloc, &mut disks, &mut out)?;
-    assert!(rt; out.taken() == DUMP, "the report");
+    let (outcome, out) = dumped(alloc, ROOM, Calls::of(alloc, &[2])?)?;
+    assert!(rt; outcome == 0 && out.taken() == DUMP, "the report");
     Ok(())
 }
 
 #[test]
 fn a_sink_that_fails_ends_the_report(rt: HostRuntime) -> Result<(), Fail> {
     let alloc = rt.alloc();
-    let mut disks = two_disks(alloc)?;
-    let mut out = MemSink::new(alloc, ROOM, Calls::of(alloc, &[1])?)?;
-    assert!(rt;
-        dump_all(alloc, &mut disks, &mut out) == Err(ToolFault::SinkFault),
-        "the dump"
-    );
-    let mut out = MemSink::new(alloc, ROOM, Calls::of(alloc, &[2])?)?;
-    assert!(rt;
-        check_all(alloc, &mut disks, &mut out) == Err(ToolFault::SinkFault),
-        "the counts"
-    );
-    let first = b"disk 0 class 1 end 2 kept 2 stale 0 foreign 0 tomb 0 never 0 torn 0 bad 0\n";
-    assert!(rt;
-        out.taken().starts_with(first.as_slice()),
-        "the lines of the first disk"
-    );
+    let (outcome, out) = dumped(alloc, ROOM, Calls::of(alloc, &[1])?)?;
+    assert!(rt; outcome == 3 && out.taken().is_empty(), "the first call");
+    let (outcome, out) = dumped(alloc, 12, Calls::none())?;
+    assert!(rt; outcome == 3 && out.taken() == &DUMP[..12], "a short write");
     Ok(())
+}
+
+// What became of the count of two disks' slots where this call of the sink fails.
+fn checked(alloc: Global, failing: u32) -> Result<(u32, MemSink), ToolFault> {
+    let mut disks = two_disks(alloc)?;
+    let mut out = MemSink::new(alloc, ROOM, Calls::of(alloc, &[failing])?)?;
+    let result = check_all(alloc, &mut disks, &mut out);
+    Ok((outcome(result), out))
+}
+
+#[test]
+fn each_disk_is_a_piece_of_the_report(rt: HostRuntime) -> Result<(), Fail> {
+    let alloc = rt.alloc();
+    let (outcome, out) = checked(alloc, 1)?;
+    assert!(rt; outcome == 3 && out.taken().is_empty(), "the first piece");
+    let (outcome, out) = checked(alloc, 2)?;
+    assert!(rt; outcome == 3 && out.taken() == FIRST, "the second piece");
+    let (outcome, _) = checked(alloc, 3)?;
+    assert!(rt; outcome == 0, "no third piece");
+    Ok(())
+}
+
+// A disk with the two items, of which this call fails.
+fn failing_disk(alloc: Global, call: u32) -> Result<MemDisk, ToolFault> {
+    let mut disk = MemDisk::new(alloc, 2, 1000, Calls::of(alloc, &[call])?)?;
+    let mut head = [0; 4096];
+    put_head(&mut head, 0, 1);
+    if disk.set_page(0, 0, &head) && disk.set_page(1, 0, &two_items()) {
+        Ok(disk)
+    } else {
+        Err(ToolFault::NoMemory)
+    }
+}
+
+// What becomes of the list of its items, how many calls of the disk it takes, and whether the sink
+// has a front of the lines.
+fn listed(alloc: Global, call: u32) -> Result<(u32, u32, bool), ToolFault> {
+    let mut disks = [failing_disk(alloc, call)?];
+    let mut out = MemSink::new(alloc, ROOM, Calls::none())?;
+    let result = dump_all(alloc, &mut disks, &mut out);
+    let front = b"2 62 32\n5 63 33\n".starts_with(out.taken());
+    Ok((outcome(result), disks[0].calls(), front))
+}
+
+#[test]
+fn a_disk_that_fails_ends_the_report(rt: HostRuntime) -> Result<(), Fail> {
+    let alloc = rt.alloc();
+    let (outcome, calls, _) = listed(alloc, 0)?;
+    assert!(rt; outcome == 0 && calls < 900, "no call fails");
+    for call in 1..calls + 1 {
+        let (outcome, last, front) = listed(alloc, call)?;
+        let wanted = if call + 2 > calls { 2 } else { 1 };
+        assert!(rt; outcome == wanted && last == call && front, "a failed call");
+    }
+    Ok(())
+}
+
+// What becomes of both reports of the two disks in the other order, and whether nothing is written.
+fn turned(
+    alloc: Global,
+) -> Result<(Result<(), ToolFault>, Result<(), ToolFault>, bool), ToolFault> {
+    let [first, second] = two_disks(alloc)?;
+    let mut disks = [second, first];
+    let mut out = MemSink::new(alloc, ROOM, Calls::none())?;
+    let listed = dump_all(alloc, &mut disks, &mut out);
+    let counted = check_all(alloc, &mut disks, &mut out);
+    Ok((listed, counted, out.taken().is_empty()))
+}
+
+// The disk of worker 1 of 2 where that of worker 0 is asked for.
+fn is_other(result: Result<(), ToolFault>) -> bool {
+    matches!(
+        result,
+        Err(ToolFault::Store {
+            worker: 0,
+            fault: OpenFault::OtherStore {
+                kept_worker: 1,
+                kept_workers: 2,
+                asked_worker: 0,
+                asked_workers: 2,
+            }
+        })
+    )
 }
 
 #[test]
 fn disks_in_another_order_are_refused(rt: HostRuntime) -> Result<(), Fail> {
     let alloc = rt.alloc();
-    let [first, second] = two_disks(alloc)?;
-    let mut disks = [second, first];
-    let mut out = MemSink::new(alloc, ROOM, Calls::none())?;
-    let fault = kv_recover::OpenFault::OtherStore {
-        kept_worker: 1,
-        kept_workers: 2,
-        asked_worker: 0,
-        asked_workers: 2,
-    };
-    let refused = Err(ToolFault::Store { worker: 0, fault });
-    assert!(rt;
-        dump_all(alloc, &mut disks, &mut out) == refused,
-        "the dump"
-    );
-    assert!(rt;
-        check_all(alloc, &mut disks, &mut out) == refused,
-        "the counts"
-    );
-    assert!(rt; out.taken().is_empty(), "no line");
+    let (listed, counted, nothing) = turned(alloc)?;
+    assert!(rt; is_other(listed), "the items");
+    assert!(rt; is_other(counted), "the counts");
+    assert!(rt; nothing, "no line");
     Ok(())
 }

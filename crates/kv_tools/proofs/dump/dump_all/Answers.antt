@@ -5,8 +5,8 @@ use Rattle.kv_recover.proofs.CauseLemmas.{handed}
 use Rattle.kv_tools.specs.declared.fault.ToolFault.{ToolFault}
 use Rattle.kv_tools.specs.Disks.{CountsAll}
 use Rattle.kv_tools.specs.Dumped.{AreItemsOf, ArePlaced, DumpsUntil}
-use Rattle.kv_tools.proofs.DumpedLemmas.{kept-were, reads_all-then, counts_all-then}
-use Rattle.kv_tools.proofs.UntilLemmas.{until-put, until-flushed, dumps-all, counts-sink}
+use Rattle.kv_tools.proofs.DumpedLemmas.{kept-were, reads_all-then, counts_all-then, until-lines}
+use Rattle.kv_tools.proofs.UntilLemmas.{front-put, front-flushed, dumps-all, counts-sink}
 use Rattle.kv_tools.proofs.dump.dump_all.Goals as goal
 
 pub put_lines-requires-clause-places : goal.put_lines-requires-clause-places
@@ -22,16 +22,16 @@ put_lines-requires-clause-kept g c = λ tells item has.
     (subst (λ l. Contains l item) c.as_slice.ensures.value has))
 
 pub returns-in_err-put_lines-clause-err : goal.returns-in_err-put_lines-clause-err
-returns-in_err-put_lines-clause-err g c = λ tells.
+returns-in_err-put_lines-clause-err g c =
     handed c.from_residual-in_err-put_lines.result _ _
     c.from_residual-in_err-put_lines.ensures.1 (λ e is.
     subst (DumpsUntil g.D.Disk c.args.disks.now (g.Si.Sink.held c.args.out.now)
     (g.Si.Sink.held c.put_lines.new.out)) (sym is)
-    (until-put g.D.Disk c.args.disks.now _ _ _ c.in_ok-text.ensures tells
+    (until-lines g.D.Disk c.args.disks.now _ _ _ _ c.in_err-put_lines.ensures.cause (λ tells.
+    front-put g.D.Disk c.args.disks.now _ _ _ c.in_ok-text.ensures tells
     c.list_all.ensures.reads (subst (AreItemsOf g.D.Disk c.args.disks.now (length c.args.disks.now))
-    (sym c.as_slice.ensures.value) (c.in_ok-items.ensures.items tells)) _ _ _ _
-    c.in_err-put_lines.ensures.cause
-    (c.in_err-put_lines.ensures.err tells)))
+    (sym c.as_slice.ensures.value) (c.in_ok-items.ensures.items tells)) _ _
+    (c.in_err-put_lines.ensures.err tells))))
 
 pub returns-in_err-put_lines-clause-reads : goal.returns-in_err-put_lines-clause-reads
 returns-in_err-put_lines-clause-reads g c =
@@ -49,12 +49,12 @@ returns-in_err-put_lines-clause-faults g c =
     c.in_ok-items.ensures.faults c.in_err-put_lines.ensures.faults)
 
 pub returns-in_err-flush-clause-err : goal.returns-in_err-flush-clause-err
-returns-in_err-flush-clause-err g c = λ tells.
+returns-in_err-flush-clause-err g c =
     handed c.from_residual-in_err-flush.result _ _
     c.from_residual-in_err-flush.ensures.1 (λ e is.
     subst (DumpsUntil g.D.Disk c.args.disks.now (g.Si.Sink.held c.args.out.now)
     (g.Si.Sink.held c.flush.new.out)) (sym is)
-    (until-flushed g.D.Disk c.args.disks.now _ _ _ c.in_ok-text.ensures tells
+    (λ tells. front-flushed g.D.Disk c.args.disks.now _ _ _ c.in_ok-text.ensures tells
     c.list_all.ensures.reads (subst (AreItemsOf g.D.Disk c.args.disks.now (length c.args.disks.now))
     (sym c.as_slice.ensures.value) (c.in_ok-items.ensures.items tells)) _ _ _ _
     (c.in_ok-put_lines.ensures.ok tells)

@@ -14,7 +14,9 @@ use Rattle.kv_tools.proofs.list.list_all.Goals as goal
 pub returns-in_err-listed-clause-err : goal.returns-in_err-listed-clause-err
 returns-in_err-listed-clause-err g c =
     handed c.from_residual.result _ _ c.from_residual.ensures.1 (λ e is.
-    subst IsListFault (sym is) (list-fault g.D.Disk _ _ _ _ c.in_err-listed.ensures.cause))
+    subst (IsListFault g.D.Disk c.args.disks.now) (sym is)
+    (list-fault g.D.Disk c.args.disks.now _ c.loop-worker.worker _ _
+    (λ tells. (c.loop-worker.invariant.items tells).stores) c.in_err-listed.ensures.cause))
 
 pub returns-in_err-listed-clause-cause : goal.returns-in_err-listed-clause-cause
 returns-in_err-listed-clause-cause g c =

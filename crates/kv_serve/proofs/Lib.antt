@@ -18,3 +18,4 @@ pub mod BeginLemmas
 pub mod KeyLemmas
 pub mod FullLemmas
 pub mod CauseLemmas
+pub mod ReportLemmas

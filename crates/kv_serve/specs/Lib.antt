@@ -7,3 +7,4 @@ pub mod Laws
 pub mod Outcome
 pub mod Run
 pub mod StatusLine
+pub mod Report

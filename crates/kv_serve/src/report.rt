@@ -1,17 +1,52 @@
+ghost use Rattle.std.specs.Prelude.{◌≡◌, ◌<◌, ◌≤◌, ℕ, List, [], length, IsTrue, OnOk, IfErr};
+ghost use Rattle.kv_site.specs.Held.{Held, TakesReport};
+ghost use Rattle.kv_serve.specs.Report.{AreHome, CountsTakes, GivesDisks, IsReported, IsReportEnd};
+ghost use Rattle.kv_serve.specs.Report.{IsTakeRefusal, Makes, ReturnsAll, TookDisks};
+ghost use Rattle.kv_serve.specs.Serve.{outside_of};
+
 use crate::ended::{Ended, Refused};
 use crate::refuse::not_served;
-use kv_base::ReservedList;
+use kv_base::{ReservedList, Sink, Source};
 use kv_disk::Disk;
 use kv_recover::OpenFault;
 use kv_site::{Site, TakeFault};
 use kv_tools::{ToolFault, check_all, dump_all};
 use std::alloc::Global;
 
+/// A report of a store's disks.
+#[derive(Clone, Copy)]
+pub enum ReportKind {
+    /// How many of their slots are of which kind.
+    Check,
+    /// All items that they keep.
+    Dump,
+}
+
 /// The disks of a store, worker by worker.
 type Disks<D> = ReservedList<D>;
 
-/// The end of a command by what became of its report.
-fn reported(alloc: Global, outcome: Result<(), ToolFault>) -> Ended {
+/// Makes the report over the disks.
+fn make_report<D: Disk, Si: Sink>(
+    alloc: Global,
+    kind: ReportKind,
+    disks: &mut [D],
+    out: &mut Si,
+) -> Result<(), ToolFault>
+    requires some { 1 ≤ length disks.old }
+    requires limit { length disks.old ≤ 16 }
+    ensures { Makes ⟦<D as Disk>⟧ Si.held Si.faults kind disks.old disks.new out.old out.new result }
+{
+    match kind {
+        ReportKind::Check => check_all(alloc, disks, out),
+        ReportKind::Dump => dump_all(alloc, disks, out),
+    }
+}
+
+/// The end of a command by what came of its report.
+fn reported(alloc: Global, outcome: Result<(), ToolFault>) -> Ended
+    ensures endings { result.endings.items ≡ [] }
+    ensures ends { IsReportEnd outcome result.status result.refused }
+{
     match outcome {
         Ok(()) => not_served(alloc, 0, None),
         Err(ToolFault::Store { worker, fault }) => {
@@ -26,85 +61,139 @@ fn reported(alloc: Global, outcome: Result<(), ToolFault>) -> Ended {
     }
 }
 
-/// The end of a command that was refused something by the site.
-fn refused_by(alloc: Global, fault: TakeFault, refused: Refused) -> Ended {
+/// The end of a command that the site refused something.
+fn refused_by(alloc: Global, fault: TakeFault, refused: Refused) -> Ended
+    ensures endings { result.endings.items ≡ [] }
+    ensures cause { IsTakeRefusal fault refused result.status result.refused }
+{
     match fault {
         TakeFault::Failed => not_served(alloc, 3, Some(refused)),
         TakeFault::NoMemory => not_served(alloc, 4, None),
     }
 }
 
+/// Takes the disks of so many workers in the folder. Where the site refuses one it answers whose, and
+/// those before it are in the list.
+fn take_disks<S: Site>(
+    site: &mut S,
+    folder: &str,
+    workers: u32,
+    disks: &mut Disks<S::Pages>,
+) -> Result<(), (u32, TakeFault)>
+    requires empty { disks.old.items ≡ [] }
+    requires room { workers ≤ disks.old.spare }
+    ensures took { IsTrue S.tells → TookDisks (S.holds site.old) (S.holds site.new) folder.now
+        disks.new.items }
+    ensures ok { OnOk result (length disks.new.items ≡ workers) }
+    ensures within { length disks.new.items ≤ workers }
+    ensures err { IfErr result (λ refused. refused.0 < workers) }
+    ensures counted { CountsTakes (S.faults site.old) (S.faults site.new) result }
+{
+    for worker in 0..workers {
+        match site.take_disk(folder, worker) {
+            Ok(disk) => disks.append(disk).unwrap(),
+            Err(fault) => return Err((worker, fault)),
+        }
+    }
+    Ok(())
+}
+
 /// Gives the disks back, the last one first.
-fn give_disks<S: Site>(site: &mut S, mut disks: Disks<S::Pages>) {
+fn give_disks<S: Site>(site: &mut S, mut disks: Disks<S::Pages>)
+    requires { length disks.items ≤ 16 }
+    ensures given { IsTrue S.tells → (folder : List ℕ)
+        → AreHome (S.holds site.old) folder (length disks.items)
+        → GivesDisks (S.holds site.old) (S.holds site.new) folder disks.items }
+    ensures still { S.faults site.new ≡ S.faults site.old }
+{
     while let Some(disk) = disks.take_last() {
         site.give_disk(disks.as_slice().len() as u32, disk);
     }
 }
 
-/// Takes the disks of so many workers in the folder, and tells where one is refused, after giving
-/// back those before it.
-fn take_disks<S: Site>(
+/// Gives back the disks and the sink of the report.
+fn give_all<S: Site>(site: &mut S, disks: Disks<S::Pages>, out: S::Out)
+    requires { length disks.items ≤ 16 }
+    ensures given { (before between : Held S.In S.Out S.Pages) (folder : List ℕ)
+        (olds : List S.Pages) (old : S.Out) → IsTrue S.tells → TakesReport before between old
+        → TookDisks between (S.holds site.old) folder olds → length disks.items ≡ length olds
+        → ReturnsAll before (S.holds site.new) folder olds disks.items old out }
+    ensures still { S.faults site.new ≡ S.faults site.old }
+{
+    give_disks(site, disks);
+    site.give_report(out);
+}
+
+/// Makes the report over disks and a sink that were taken from the site.
+fn report_taken<S: Site>(
     alloc: Global,
-    folder: &str,
-    workers: u32,
     site: &mut S,
+    mut out: S::Out,
+    kind: ReportKind,
     mut disks: Disks<S::Pages>,
-) -> Result<Disks<S::Pages>, Ended> {
-    for worker in 0..workers {
-        match site.take_disk(folder, worker) {
-            Ok(disk) => disks.append(disk).unwrap(),
-            Err(fault) => {
-                give_disks(site, disks);
-                return Err(refused_by(alloc, fault, Refused::TakeDisk { worker }));
-            }
-        }
-    }
-    Ok(disks)
+) -> Ended
+    requires some { 1 ≤ length disks.items }
+    requires limit { length disks.items ≤ 16 }
+    ensures { (before between : Held S.In S.Out S.Pages) (folder : List ℕ) (n : ℕ)
+        → (IsTrue S.tells → TakesReport before between out)
+        → (IsTrue S.tells → TookDisks between (S.holds site.old) folder disks.items)
+        → n ≡ S.faults site.old
+        → IsReported ⟦<S::Pages as Disk>⟧ (outside_of ⟦<S::In as Source>⟧ ⟦<S::Out as Sink>⟧ S.tells
+        before (S.holds site.new) n (S.faults site.new)) kind folder (length disks.items) result }
+{
+    let outcome = make_report(alloc, kind, disks.as_mut_slice(), &mut out);
+    give_all(site, disks, out);
+    reported(alloc, outcome)
 }
 
-/// Takes the sink of the report and the disks.
-fn take_all<S: Site>(
+/// Takes the disks and makes the report to a sink that was taken from the site.
+fn report_to<S: Site>(
     alloc: Global,
+    site: &mut S,
+    out: S::Out,
+    kind: ReportKind,
+    folder: &str,
+    workers: u32,
+    mut disks: Disks<S::Pages>,
+) -> Ended
+    requires some { 1 ≤ workers }
+    requires limit { workers ≤ 16 }
+    requires empty { disks.items ≡ [] }
+    requires room { workers ≤ disks.spare }
+    ensures { (before : Held S.In S.Out S.Pages) (n : ℕ)
+        → (IsTrue S.tells → TakesReport before (S.holds site.old) out)
+        → n ≡ S.faults site.old
+        → IsReported ⟦<S::Pages as Disk>⟧ (outside_of ⟦<S::In as Source>⟧ ⟦<S::Out as Sink>⟧ S.tells
+        before (S.holds site.new) n (S.faults site.new)) kind folder.now workers result }
+{
+    match take_disks(site, folder, workers, &mut disks) {
+        Ok(()) => report_taken(alloc, site, out, kind, disks),
+        Err((worker, fault)) => {
+            give_all(site, disks, out);
+            refused_by(alloc, fault, Refused::TakeDisk { worker })
+        }
+    }
+}
+
+/// Makes a report over the disks of so many workers in the folder, and gives back all that it takes.
+pub fn report<S: Site>(
+    alloc: Global,
+    kind: ReportKind,
     folder: &str,
     workers: u32,
     site: &mut S,
-) -> Result<(S::Out, Disks<S::Pages>), Ended> {
+) -> Ended
+    requires some { 1 ≤ workers }
+    requires limit { workers ≤ 16 }
+    ensures { IsReported ⟦<S::Pages as Disk>⟧ (outside_of ⟦<S::In as Source>⟧ ⟦<S::Out as Sink>⟧
+        S.tells (S.holds site.old) (S.holds site.new) (S.faults site.old) (S.faults site.new)) kind
+        folder.now workers result }
+{
     let Ok(disks) = Disks::with_room(alloc, workers as usize) else {
-        return Err(not_served(alloc, 4, None));
+        return not_served(alloc, 4, None);
     };
-    let out = match site.take_report() {
-        Ok(out) => out,
-        Err(fault) => return Err(refused_by(alloc, fault, Refused::TakeReport)),
-    };
-    match take_disks(alloc, folder, workers, site, disks) {
-        Ok(disks) => Ok((out, disks)),
-        Err(ended) => {
-            site.give_report(out);
-            Err(ended)
-        }
+    match site.take_report() {
+        Ok(out) => report_to(alloc, site, out, kind, folder, workers, disks),
+        Err(fault) => refused_by(alloc, fault, Refused::TakeReport),
     }
-}
-
-/// Reports what stands in the slots of the disks of so many workers in the folder.
-pub fn check<S: Site>(alloc: Global, folder: &str, workers: u32, site: &mut S) -> Ended {
-    let (mut out, mut disks) = match take_all(alloc, folder, workers, site) {
-        Ok(taken) => taken,
-        Err(ended) => return ended,
-    };
-    let outcome = check_all(alloc, disks.as_mut_slice(), &mut out);
-    give_disks(site, disks);
-    site.give_report(out);
-    reported(alloc, outcome)
-}
-
-/// Reports all items that the disks of so many workers in the folder keep.
-pub fn dump<S: Site>(alloc: Global, folder: &str, workers: u32, site: &mut S) -> Ended {
-    let (mut out, mut disks) = match take_all(alloc, folder, workers, site) {
-        Ok(taken) => taken,
-        Err(ended) => return ended,
-    };
-    let outcome = dump_all(alloc, disks.as_mut_slice(), &mut out);
-    give_disks(site, disks);
-    site.give_report(out);
-    reported(alloc, outcome)
 }

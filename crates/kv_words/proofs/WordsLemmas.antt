@@ -1,6 +1,6 @@
 -- Words are read one by one.
 use Rattle.std.proofs.Common.{◌≡◌, ◌≢◌, ◌⊎◌, inl, inr, ℕ, zero, suc, ◌+◌, ◌≤◌, ◌^◌, List, [], ◌∷◌, ◌++◌}
-use Rattle.std.proofs.Common.{length, map, drop, slice_get, Option, None, Some, MatchOption}
+use Rattle.std.proofs.Common.{length, map, drop, slice_get, get_or, Option, None, Some, MatchOption}
 use Rattle.std.proofs.Common.{refl, sym, ap, ◌∙◌, subst, arith}
 use Rattle.std.specs.Prelude.{if◌then◌else◌, option_and_then}
 use Rattle.std.specs.Borrow.{Bor}
@@ -9,7 +9,7 @@ use Rattle.std.proofs.lemmas.Bool.Decides.{eqb_tells}
 use Rattle.std.proofs.lemmas.Option.{same_Some}
 use Rattle.kv_base.specs.Limits.{AreLimits}
 use Rattle.kv_base.specs.declared.limits.Limits.{Limits}
-use Rattle.kv_words.specs.Words.{Text, Said, AreLimitsOf, IsLimit, all_said, one_more, rest_behind}
+use Rattle.kv_words.specs.Words.{Text, Said, AreLimitsOf, IsLimit, IsNumberIn, all_said, one_more, rest_behind}
 
 -- what stands behind the front of a word, if the word begins with it
 rest-front : (front rest : Text) → rest_behind front (front ++ rest) ≡ Some rest
@@ -98,3 +98,30 @@ limits-good said limits are = record {
   some_pages = limit-low 1024 256 said.cache limits.cache (omega arith) are.cache;
   pages = limit-high 1024 256 said.cache limits.cache (omega arith) are.cache;
 }
+
+-- a list of so many words has those that stand at its places
+pub two-words : (words : List (Bor Text)) (x : Bor Text) → length words ≡ 2
+    → map (λ word. word.now) words ≡ (get_or words 0 x).now ∷ (get_or words 1 x).now ∷ []
+two-words [] x count = absurd (omega (arith, count))
+two-words (a ∷ []) x count = absurd (omega (arith, count))
+two-words (a ∷ b ∷ []) x count = refl
+two-words (a ∷ b ∷ c ∷ words) x count = absurd (omega (arith, count))
+
+pub four-words : (words : List (Bor Text)) (x : Bor Text) → length words ≡ 4
+    → map (λ word. word.now) words ≡ (get_or words 0 x).now ∷ (get_or words 1 x).now
+    ∷ (get_or words 2 x).now ∷ (get_or words 3 x).now ∷ []
+four-words [] x count = absurd (omega (arith, count))
+four-words (a ∷ []) x count = absurd (omega (arith, count))
+four-words (a ∷ b ∷ []) x count = absurd (omega (arith, count))
+four-words (a ∷ b ∷ c ∷ []) x count = absurd (omega (arith, count))
+four-words (a ∷ b ∷ c ∷ d ∷ []) x count = refl
+four-words (a ∷ b ∷ c ∷ d ∷ e ∷ words) x count = absurd (omega (arith, count))
+
+-- the second of two words
+pub second-of : (a b c d : Text) → a ∷ b ∷ [] ≡ c ∷ d ∷ [] → b ≡ d
+second-of a b c d same = cc
+
+-- a number of 1 at most
+pub only-one : (text : Text) (number : ℕ) → IsNumberIn 1 1 text number → IsNumberIn 1 1 text 1
+only-one text number is =
+    let one : number ≡ 1 = omega (arith, is.low, is.high) in subst (IsNumberIn 1 1 text) one is

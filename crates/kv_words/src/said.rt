@@ -184,7 +184,10 @@ pub fn hear_all<'a>(alloc: Global, words: &'a [String]) -> Result<Heard<'a>, Wor
 {
     let mut heard = Heard::new(alloc);
     for word in words {
-        heard.hear(word.as_str())?;
+        match heard.hear(word.as_str()) {
+            Ok(()) => {}
+            Err(fault) => return Err(fault),
+        }
     }
     Ok(heard)
 }

@@ -132,7 +132,9 @@ fn reported<'a>(heard: &Heard<'a>) -> Option<(&'a str, u32)>
     let [folder, workers] = heard.plain.as_slice() else {
         return None;
     };
-    let workers = number_in(workers, 1, MOST_WORKERS)?;
+    let Some(workers) = number_in(workers, 1, MOST_WORKERS) else {
+        return None;
+    };
     if !heard.slots.is_empty() || !heard.cache.is_empty() {
         return None;
     }

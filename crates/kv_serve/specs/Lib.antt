@@ -8,3 +8,4 @@ pub mod Outcome
 pub mod Run
 pub mod StatusLine
 pub mod Report
+pub mod Command

@@ -1,11 +1,12 @@
 ghost use Rattle.std.specs.Prelude.{◌≡◌, ℕ, ◌⊎◌, List, [], map, string_bytes, None};
 ghost use Rattle.kv_base.specs.Limits.{AreLimits};
 ghost use Rattle.kv_serve.specs.Serve.{IsDone, outside_of};
-ghost use Rattle.kv_words.specs.Words.{Asked, Asks, Serving};
+ghost use Rattle.kv_serve.specs.Command.{Does};
+ghost use Rattle.kv_words.specs.Words.{Asked, Asks};
 
 use crate::ended::{Ended, Endings, Refused};
 use crate::refuse::not_served;
-use crate::report::{check, dump};
+use crate::report::{ReportKind, report};
 use crate::room::Room;
 use crate::serve_disk::{Names, serve_disk};
 use kv_base::{Limits, Sink, Source};
@@ -22,11 +23,11 @@ pub fn run_words<S: Site>(alloc: Global, words: &[String], site: &mut S) -> Ende
     ensures usage { ((asked : Asked) → Asks (map (λ word. string_bytes word) words.now) asked → ⊥)
         → ((result.status ≡ 2) ⊎ (result.status ≡ 4)) × (result.endings.items ≡ [])
         × (result.refused ≡ None) × (site.new ≡ site.old) }
-    ensures serve { (serving : Serving)
-        → Asks (map (λ word. string_bytes word) words.now) (Asked.serve serving)
-        → IsDone ⟦<S::Pages as Disk>⟧ (outside_of ⟦<S::In as Source>⟧ ⟦<S::Out as Sink>⟧ S.tells
-        (S.holds site.old) (S.holds site.new) (S.faults site.old) (S.faults site.new)) serving.folder
-        serving.limits result }
+    ensures asked { (asked : Asked) → Asks (map (λ word. string_bytes word) words.now) asked
+        → Does ⟦<S::Pages as Disk>⟧ (outside_of ⟦<S::In as Source>⟧ ⟦<S::Out as Sink>⟧ S.tells
+        (S.holds site.old) (S.holds site.new) (S.faults site.old) (S.faults site.new)) asked result }
+    ensures only { result.status ≡ 2
+        → (asked : Asked) → Asks (map (λ word. string_bytes word) words.now) asked → ⊥ }
 {
     match read_words(alloc, words) {
         Ok(
@@ -37,8 +38,12 @@ pub fn run_words<S: Site>(alloc: Global, words: &[String], site: &mut S) -> Ende
                 output,
             },
         ) => serve(alloc, folder, limits, Names { input, output }, site),
-        Ok(Command::Check { folder, workers }) => check(alloc, folder, workers, site),
-        Ok(Command::Dump { folder, workers }) => dump(alloc, folder, workers, site),
+        Ok(Command::Check { folder, workers }) => {
+            report(alloc, ReportKind::Check, folder, workers, site)
+        }
+        Ok(Command::Dump { folder, workers }) => {
+            report(alloc, ReportKind::Dump, folder, workers, site)
+        }
         Err(WordsFault::Usage) => not_served(alloc, 2, None),
         Err(WordsFault::NoMemory) => not_served(alloc, 4, None),
     }

@@ -1,4 +1,4 @@
-ghost use Rattle.std.specs.Prelude.{◌≡◌, ℕ, map, string_bytes, MatchOption, MatchResult};
+ghost use Rattle.std.specs.Prelude.{◌≡◌, ℕ, map, string_bytes, Err, IfOk, MatchOption};
 ghost use Rattle.kv_words.specs.Asked.{asked_by};
 ghost use Rattle.kv_words.specs.Words.{Asked, Asks, AreLimitsOf, IsLimit, IsNumberIn, Reporting};
 ghost use Rattle.kv_words.specs.Words.{Says, SaysReport, SaysServe, Serving, first_word};
@@ -162,11 +162,14 @@ fn command_of<'a>(first: &str, heard: &Heard<'a>) -> Option<Command<'a>>
 }
 
 /// The command that the words are, without the program's name: those of docs/protocol.md, "Words".
-/// Usage comes exactly where they are none.
+/// Usage comes exactly where they are none, or else want of memory.
 pub fn read_words<'a>(alloc: Global, words: &'a [String]) -> Result<Command<'a>, WordsFault>
-    ensures { MatchResult result (λ command. Asks (map (λ word. string_bytes word) words.now)
-        (asked_by command)) (λ fault. fault ≡ WordsFault.Usage
-        → (asked : Asked) → Asks (map (λ word. string_bytes word) words.now) asked → ⊥) }
+    ensures ok { IfOk result (λ command. Asks (map (λ word. string_bytes word) words.now)
+        (asked_by command)) }
+    ensures only { IfOk result (λ command. (asked : Asked)
+        → Asks (map (λ word. string_bytes word) words.now) asked → asked ≡ asked_by command) }
+    ensures usage { result ≡ Err WordsFault.Usage → (asked : Asked)
+        → Asks (map (λ word. string_bytes word) words.now) asked → ⊥ }
 {
     let Some((first, rest)) = words.split_first() else {
         return Err(WordsFault::Usage);

@@ -1,10 +1,12 @@
 -- The items of one disk more are listed.
 use Rattle.std.proofs.Common.{◌≡◌, ◌≢◌, ◌⊎◌, inl, inr, ℕ, zero, suc, ◌+◌, ◌<◌, List, [], ◌∷◌, length}
-use Rattle.std.proofs.Common.{map, slice_get, Some, Err, IsTrue, Contains, refl, sym, ap, ◌∙◌, subst}
-use Rattle.std.proofs.Common.{arith}
+use Rattle.std.proofs.Common.{map, set, slice_get, Some, Result, Ok, Err, IsTrue, Contains, refl, sym, ap}
+use Rattle.std.proofs.Common.{◌∙◌, subst, arith}
 use Rattle.std.specs.Ordering.{is_lt}
+use Rattle.std.specs.Result.{IsErrAnd}
 use Rattle.std.proofs.lemmas.Bool.{cases_lt}
 use Rattle.std.proofs.lemmas.Option.{same_Some}
+use Rattle.std.proofs.lemmas.Result.{err_from_is_err_and}
 use Rattle.kv_base.specs.Image.{Image}
 use Rattle.kv_base.specs.Partition.{owner_of}
 use Rattle.kv_disk.specs.declared.disk.Disk.{Ghosts}
@@ -19,13 +21,13 @@ use Rattle.kv_recover.specs.Causes.{HasMakeCause}
 use Rattle.kv_tools.specs.declared.fault.ToolFault.{ToolFault}
 use Rattle.kv_tools.specs.declared.fault.ToolFault.TheVariants.{Store, DiskFault, SinkFault, NoMemory}
 use Rattle.kv_tools.specs.declared.merge.Listed.{Listed}
-use Rattle.kv_tools.specs.Disks.{AreStores}
+use Rattle.kv_tools.specs.Disks.{AreStores, CountsAll}
 use Rattle.kv_tools.specs.Dumped.{AreItemsOf, ArePlaced, HasKey, IsKeptOn}
 use Rattle.kv_tools.specs.DumpedDisk.{ListsDisk, HasListCause, IsListFault}
 use Rattle.kv_tools.specs.Faults.{HasReportCause, disk_faults}
 use Rattle.kv_tools.specs.Merged.{listed_of, Rises, AreApart}
 use Rattle.kv_tools.proofs.CheckedLemmas.{cause_was}
-use Rattle.kv_tools.proofs.DisksLemmas.{other_count}
+use Rattle.kv_tools.proofs.DisksLemmas.{counts_all-set, other_count}
 
 -- what stands in a mapped list
 contains-mapped : {A B : Type 0} (f : A → B) (xs : List A) (y : B) → Contains (map f xs) y
@@ -195,7 +197,7 @@ list-fault d disks mid worker workers SinkFault stores cause = absurd cause
 list-fault d disks mid worker workers NoMemory stores cause = tt
 
 -- no other disk has a fault
-pub list-others : {D : Type 0} (T : Type 0) (d : Ghosts D) (mid : D) (worker workers : ℕ)
+list-others : {D : Type 0} (T : Type 0) (d : Ghosts D) (mid : D) (worker workers : ℕ)
     (fault : ToolFault) → HasListCause d mid worker workers fault → (w n : ℕ) → w ≢ worker
     → disk_faults {T = T} (Err fault) w n ≡ n
 list-others T d mid worker workers (Store at fault) cause w n other =
@@ -203,3 +205,17 @@ list-others T d mid worker workers (Store at fault) cause w n other =
 list-others T d mid worker workers (DiskFault at) cause w n other = absurd cause
 list-others T d mid worker workers SinkFault cause w n other = absurd cause
 list-others T d mid worker workers NoMemory cause w n other = refl
+
+-- the refusal is handed on, and just the disk that was refused may count a fault
+pub list-counts : {D T U : Type 0} (d : Ghosts D) (olds mids : List D) (worker workers : ℕ)
+    (mid new : D) (done : U) (result : Result T ToolFault) (fault : ToolFault)
+    → IsErrAnd result (λ e. e ≡ fault) → CountsAll {T = U} d olds mids (Ok done)
+    → slice_get mids worker ≡ Some mid
+    → d.faults new ≡ disk_faults {T = T} (Err fault) worker (d.faults mid)
+    → HasListCause d mid worker workers fault → CountsAll d olds (set mids worker new) result
+list-counts {D} {T} d olds mids worker workers mid new done result fault handed_on all at counted cause =
+    let given = err_from_is_err_and result handed_on in
+    let failed : Result T ToolFault = Err fault in
+    subst (CountsAll d olds (set mids worker new)) (sym (given.1 ∙ ap Err given.2))
+    (counts_all-set d olds mids worker mid new done failed all at counted
+    (list-others T d mid worker workers fault cause))

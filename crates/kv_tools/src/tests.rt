@@ -125,8 +125,8 @@ const FIRST: &[u8] =
 
 // What became of a report: it is whole, a disk was refused after a failed call of it, a value
 // couldn't be read, the sink failed, or something else.
-fn outcome(result: Result<(), ToolFault>) -> u32 {
-    match result {
+fn outcome(end: Result<(), ToolFault>) -> u32 {
+    match end {
         Ok(()) => 0,
         Err(
             ToolFault::Store {
@@ -144,8 +144,8 @@ fn outcome(result: Result<(), ToolFault>) -> u32 {
 fn dumped(alloc: Global, room: usize, failing: Calls) -> Result<(u32, MemSink), ToolFault> {
     let mut disks = two_disks(alloc)?;
     let mut out = MemSink::new(alloc, room, failing)?;
-    let result = dump_all(alloc, &mut disks, &mut out);
-    Ok((outcome(result), out))
+    let end = dump_all(alloc, &mut disks, &mut out);
+    Ok((outcome(end), out))
 }
 
 #[test]
@@ -170,8 +170,8 @@ fn a_sink_that_fails_ends_the_report(rt: HostRuntime) -> Result<(), Fail> {
 fn checked(alloc: Global, failing: u32) -> Result<(u32, MemSink), ToolFault> {
     let mut disks = two_disks(alloc)?;
     let mut out = MemSink::new(alloc, ROOM, Calls::of(alloc, &[failing])?)?;
-    let result = check_all(alloc, &mut disks, &mut out);
-    Ok((outcome(result), out))
+    let end = check_all(alloc, &mut disks, &mut out);
+    Ok((outcome(end), out))
 }
 
 #[test]
@@ -203,9 +203,9 @@ fn failing_disk(alloc: Global, call: u32) -> Result<MemDisk, ToolFault> {
 fn listed(alloc: Global, call: u32) -> Result<(u32, u32, bool), ToolFault> {
     let mut disks = [failing_disk(alloc, call)?];
     let mut out = MemSink::new(alloc, ROOM, Calls::none())?;
-    let result = dump_all(alloc, &mut disks, &mut out);
+    let end = dump_all(alloc, &mut disks, &mut out);
     let front = b"2 62 32\n5 63 33\n".starts_with(out.taken());
-    Ok((outcome(result), disks[0].calls(), front))
+    Ok((outcome(end), disks[0].calls(), front))
 }
 
 #[test]
@@ -234,9 +234,9 @@ fn turned(
 }
 
 // The disk of worker 1 of 2 where that of worker 0 is asked for.
-fn is_other(result: Result<(), ToolFault>) -> bool {
+fn is_other(end: Result<(), ToolFault>) -> bool {
     matches!(
-        result,
+        end,
         Err(ToolFault::Store {
             worker: 0,
             fault: OpenFault::OtherStore {

@@ -1,14 +1,10 @@
 -- One disk more.
-use Rattle.std.proofs.Common.{refl, sym, ap, subst, ◌∙◌, set, Result, Ok, Err, arith}
-use Rattle.std.proofs.lemmas.Result.{err_from_is_err_and}
+use Rattle.std.proofs.Common.{refl, sym, subst, Ok, arith}
 use Rattle.kv_recover.proofs.CauseLemmas.{handed}
-use Rattle.kv_tools.specs.declared.fault.ToolFault.{ToolFault}
-use Rattle.kv_tools.specs.declared.merge.Listed.{Listed}
-use Rattle.kv_tools.specs.Disks.{CountsAll}
 use Rattle.kv_tools.specs.DumpedDisk.{IsListFault}
 use Rattle.kv_tools.specs.Faults.{HasReportCause}
 use Rattle.kv_tools.proofs.DisksLemmas.{are_at, reads_all-set, counts_all-set}
-use Rattle.kv_tools.proofs.ListedLemmas.{items_of-next, placed-next, list-cause, list-fault, list-others}
+use Rattle.kv_tools.proofs.ListedLemmas.{items_of-next, placed-next, list-cause, list-fault, list-counts}
 use Rattle.kv_tools.proofs.list.list_all.Goals as goal
 
 pub returns-in_err-listed-clause-err : goal.returns-in_err-listed-clause-err
@@ -37,14 +33,10 @@ pub returns-in_err-listed-clause-faults : goal.returns-in_err-listed-clause-faul
 returns-in_err-listed-clause-faults g c =
     let at = are_at g.D.Disk c.args.disks.now c.loop-worker.disks c.loop-worker.worker
     c.index-disks-worker.result c.loop-worker-test.true c.loop-worker.invariant.reads in
-    let fault = c.in_err-listed.field-0.0 in
-    let given = err_from_is_err_and c.from_residual.result c.from_residual.ensures.1 in
-    subst (CountsAll g.D.Disk c.args.disks.now
-    (set c.loop-worker.disks c.loop-worker.worker c.list_disk.new.disk))
-    (sym (given.1 ∙ ap Err given.2))
-    (counts_all-set g.D.Disk _ _ _ _ _ tt (Err fault) c.loop-worker.invariant.calm at.mid
-    c.in_err-listed.ensures.faults
-    (list-others _ g.D.Disk _ _ _ fault c.in_err-listed.ensures.cause))
+    list-counts g.D.Disk c.args.disks.now c.loop-worker.disks c.loop-worker.worker _ _ _ tt
+    c.from_residual.result c.in_err-listed.field-0.0 c.from_residual.ensures.1
+    c.loop-worker.invariant.calm at.mid c.in_err-listed.ensures.faults
+    c.in_err-listed.ensures.cause
 
 pub loop-worker-preserved : goal.loop-worker-preserved
 loop-worker-preserved g c =

@@ -35,6 +35,11 @@ get-there : {A : Type 0} (xs ys : List A) (x y : A)
 get-there [] ys x y at = same_Some x y at
 get-there (z ∷ zs) ys x y at = get-there zs ys x y at
 
+-- a list of no element
+pub none-left : {A : Type 0} (xs : List A) → (0 < length xs → ⊥) → xs ≡ []
+none-left [] none = refl
+none-left (x ∷ xs) none = absurd (none (omega arith))
+
 -- an element stands there, or the list ends before
 at-or-past : {A : Type 0} (xs : List A) (i : ℕ) → ((x : A) × (slice_get xs i ≡ Some x))
     ⊎ (length xs ≤ i)
@@ -43,6 +48,13 @@ at-or-past (x ∷ xs) zero = inl (x, refl)
 at-or-past (x ∷ xs) (suc i) = elim (at-or-past xs i) [
   | inl at ↦ inl at
   | inr past ↦ inr (omega (arith, past))
+]
+
+-- it is this folder, or another
+is_folder : (f folder : List ℕ) → (f ≡ folder) ⊎ (f ≡ folder → ⊥)
+is_folder f folder = elim (cases_Bool (bytes_eq f folder)) [
+  | inl same ↦ inl ((bytes_eq-Decides f folder).0 same)
+  | inr other ↦ inr (λ same. false≢true (sym other ∙ (bytes_eq-Decides f folder).1 same))
 ]
 
 module _ {In Out Pages : Type 0} where
@@ -185,12 +197,6 @@ module _ {In Out Pages : Type 0} where
         sessions = λ n. sink.sessions.held n ∙ back.sessions.held n ∙ took.sessions.held n
             ∙ takes.sessions.held n;
       }
-
-  is_folder : (f folder : List ℕ) → (f ≡ folder) ⊎ (f ≡ folder → ⊥)
-  is_folder f folder = elim (cases_Bool (bytes_eq f folder)) [
-    | inl same ↦ inl ((bytes_eq-Decides f folder).0 same)
-    | inr other ↦ inr (λ same. false≢true (sym other ∙ (bytes_eq-Decides f folder).1 same))
-  ]
 
   -- where they came back as they were taken, all is held as before
   pub all-kept : (before after : Held In Out Pages) (folder : List ℕ) (disks : List Pages) (old : Out)

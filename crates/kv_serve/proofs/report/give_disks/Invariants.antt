@@ -6,7 +6,7 @@ use Rattle.kv_serve.proofs.report.give_disks.Given as goal
 
 abbrev pub invariant-loop-disk : goal.invariant-loop-disk
 invariant-loop-disk g l = record {
-  rest : (given : List g.S.Pages) × (l.initial.disks.items ≡ l.disks.items ++ given);
+  rest : (given : List g.row.S-Pages.Denot) × (l.initial.disks.items ≡ l.disks.items ++ given);
   gives : IsTrue g.S.Site.tells → (folder : List ℕ)
       → AreHome (g.S.Site.holds l.initial.site) folder (length l.initial.disks.items)
       → GivesFrom (g.S.Site.holds l.initial.site) (g.S.Site.holds l.site) folder

@@ -1,6 +1,6 @@
 -- Disks and a sink that a report took are given back.
 use Rattle.std.proofs.Common.{◌≡◌, ◌≢◌, ◌⊎◌, inl, inr, ℕ, zero, suc, ◌<◌, ◌≤◌, ◌+◌, List, [], ◌∷◌}
-use Rattle.std.proofs.Common.{◌++◌, length, slice_get, Some, None, Option, Result, Ok, Err, IsTrue}
+use Rattle.std.proofs.Common.{◌++◌, length, take, drop, slice_get, Some, None, Option, Result, Ok, Err, IsTrue}
 use Rattle.std.proofs.Common.{refl, sym, ap, subst, ◌∙◌, arith, length-append, ⊎_elim}
 use Rattle.std.specs.Str.{bytes_eq}
 use Rattle.std.proofs.lemmas.Bool.{cases_Bool, cases_eq, false≢true}
@@ -34,6 +34,14 @@ get-there : {A : Type 0} (xs ys : List A) (x y : A)
     → slice_get ((xs ++ x ∷ []) ++ ys) (length xs) ≡ Some y → x ≡ y
 get-there [] ys x y at = same_Some x y at
 get-there (z ∷ zs) ys x y at = get-there zs ys x y at
+
+-- a list that was lent whole, with what was written
+pub lent-back : {A : Type 0} (olds news : List A) → length news ≡ length olds
+    → take (length olds) (news ++ drop (length news) olds) ≡ news
+lent-back [] [] same = refl
+lent-back [] (y ∷ ys) same = absurd (omega (arith, same))
+lent-back (x ∷ xs) [] same = absurd (omega (arith, same))
+lent-back (x ∷ xs) (y ∷ ys) same = ap (λ l. y ∷ l) (lent-back xs ys (omega (arith, same)))
 
 -- a list of no element
 pub none-left : {A : Type 0} (xs : List A) → (0 < length xs → ⊥) → xs ≡ []

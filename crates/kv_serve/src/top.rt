@@ -23,7 +23,7 @@ pub fn run_words<S: Site>(alloc: Global, words: &[String], site: &mut S) -> Ende
     ensures usage { ((asked : Asked) → Asks (map (λ word. string_bytes word) words.now) asked → ⊥)
         → ((result.status ≡ 2) ⊎ (result.status ≡ 4)) × (result.endings.items ≡ [])
         × (result.refused ≡ None) × (site.new ≡ site.old) }
-    ensures asked { (asked : Asked) → Asks (map (λ word. string_bytes word) words.now) asked
+    ensures done { (asked : Asked) → Asks (map (λ word. string_bytes word) words.now) asked
         → Does ⟦<S::Pages as Disk>⟧ (outside_of ⟦<S::In as Source>⟧ ⟦<S::Out as Sink>⟧ S.tells
         (S.holds site.old) (S.holds site.new) (S.faults site.old) (S.faults site.new)) asked result }
     ensures only { result.status ≡ 2

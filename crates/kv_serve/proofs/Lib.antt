@@ -20,3 +20,4 @@ pub mod FullLemmas
 pub mod CauseLemmas
 pub mod ReportLemmas
 pub mod CommandLemmas
+pub mod StatusLemmas

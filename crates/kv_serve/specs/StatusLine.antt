@@ -1,6 +1,6 @@
 -- What is said of how a command ended.
-use Rattle.std.specs.Prelude.{◌≡◌, ◌≢◌, ◌≤◌, ◌↔◌, ℕ, suc, ◌+◌, List, [], ◌∷◌, ◌++◌, codes}
-use Rattle.std.specs.Prelude.{Option, None, Some, IsSome, ⊤, if◌then◌else◌}
+use Rattle.std.specs.Prelude.{ℕ, ◌+◌, ◌==◌, List, [], ◌∷◌, ◌++◌, codes}
+use Rattle.std.specs.Prelude.{Option, None, Some, if◌then◌else◌}
 use Rattle.std.specs.Fmt.{decimal}
 use Rattle.std.specs.List.{concat}
 use Rattle.kv_base.specs.declared.cause.Cause.{Cause}
@@ -40,12 +40,17 @@ abbrev pub failed_text : List Ending → List ℕ
 failed_text [] = codes "kvell: report fault"
 failed_text (ending ∷ endings) = sessions_text 0 (ending ∷ endings)
 
+-- a worker of so many
+abbrev pub worker_text : ℕ → ℕ → List ℕ
+worker_text worker workers =
+    concat (codes "worker " ∷ decimal worker ∷ codes " of " ∷ decimal workers ∷ [])
+
 -- why a disk was refused
 abbrev pub fault_text : OpenFault → List ℕ
 fault_text NotAStore = codes "not a store"
 fault_text (OtherStore worker workers asked asked_workers) = concat (
-    codes "store of worker " ∷ decimal worker ∷ codes " of " ∷ decimal workers
-    ∷ codes ", asked for worker " ∷ decimal asked ∷ codes " of " ∷ decimal asked_workers ∷ [])
+    codes "store of " ∷ worker_text worker workers ∷ codes ", asked for "
+    ∷ worker_text asked asked_workers ∷ [])
 fault_text (StampsSpent stamp) = codes "stamps spent at " ++ decimal stamp
 fault_text DiskFault = codes "disk fault"
 fault_text NoMemory = codes "out of memory"
@@ -70,12 +75,11 @@ usage_text = codes "kvell: usage: serve DIR N IN OUT [IN OUT ..] / check DIR N /
 
 -- the text by the status
 abbrev pub text_at : ℕ → Ended → Option (List ℕ)
-text_at 0 ended = None
-text_at 1 ended = Some (failed_text ended.endings.items)
-text_at 2 ended = Some usage_text
-text_at 3 ended = refusal_text ended.refused
-text_at 4 ended = Some (codes "kvell: out of memory")
-text_at (suc (suc (suc (suc (suc n))))) ended = None
+text_at status ended = if status == 1 then Some (failed_text ended.endings.items)
+    else if status == 2 then Some usage_text
+    else if status == 3 then refusal_text ended.refused
+    else if status == 4 then Some (codes "kvell: out of memory")
+    else None
 
 -- what is said of how a command ended; nothing where all went well
 abbrev pub status_text : Ended → Option (List ℕ)

@@ -1,6 +1,6 @@
 ghost use Rattle.std.specs.Prelude.{◌≡◌, IfOk, Some, None, option_map, string_bytes};
 ghost use Rattle.kv_serve.specs.StatusLine.{cause_text, fault_text, refused_text, sessions_text};
-ghost use Rattle.kv_serve.specs.StatusLine.{failed_text, status_text};
+ghost use Rattle.kv_serve.specs.StatusLine.{failed_text, status_text, worker_text};
 
 use crate::ended::{Ended, Refused};
 use kv_base::{Bytes, Cause, NoMemory};
@@ -47,6 +47,13 @@ fn failed_text(alloc: Global, endings: &[Ending]) -> Result<String, AllocError>
     sessions_text(alloc, endings)
 }
 
+/// The text of a worker of so many.
+fn worker_text(alloc: Global, worker: u32, workers: u32) -> Result<String, AllocError>
+    ensures { IfOk result (λ text. string_bytes text ≡ worker_text worker workers) }
+{
+    format!(in alloc; "worker {worker} of {workers}")
+}
+
 /// The text of why a disk was refused.
 fn fault_text(alloc: Global, fault: OpenFault) -> Result<String, AllocError>
     ensures { IfOk result (λ text. string_bytes text ≡ fault_text fault) }
@@ -58,10 +65,11 @@ fn fault_text(alloc: Global, fault: OpenFault) -> Result<String, AllocError>
             kept_workers,
             asked_worker,
             asked_workers,
-        } => format!(in alloc;
-            "store of worker {kept_worker} of {kept_workers}, asked for worker {asked_worker} of \
-             {asked_workers}"
-        ),
+        } => {
+            let kept = worker_text(alloc, kept_worker, kept_workers)?;
+            let asked = worker_text(alloc, asked_worker, asked_workers)?;
+            format!(in alloc; "store of {kept}, asked for {asked}")
+        }
         OpenFault::StampsSpent { stamp } => format!(in alloc; "stamps spent at {stamp}"),
         OpenFault::DiskFault => String::from_str(alloc, "disk fault"),
         OpenFault::NoMemory => String::from_str(alloc, "out of memory"),

@@ -1,23 +1,18 @@
-ghost use Rattle.std.specs.Prelude.{◌≡◌, ◌++◌, ℕ, List, None, Some, map, IsOk, MatchOption, MatchResult};
-ghost use Rattle.std.specs.Prelude.{string_bytes, IsTrue, true, false};
-ghost use Rattle.kv_words.specs.Words.{Said, all_said, is_dashed, is_plain, nothing_said, one_more};
-ghost use Rattle.kv_words.specs.Words.{name_said, next_said, option_said, rest_behind, with_plain};
-ghost use Rattle.kv_words.specs.Words.{with_value, word_said};
+ghost use Rattle.std.specs.Prelude.{◌≡◌, ◌==◌, Err, IfOk, length, map, string_bytes};
+ghost use Rattle.std.specs.List.{list_any};
+ghost use Rattle.clap.specs.Matches.{found_of};
+ghost use Rattle.clap.specs.Simple.{app_of};
+ghost use Rattle.clap.specs.Walk.{rows_of};
+ghost use Rattle.kv_words.specs.Parsed.{asked_app, found_in, values_at};
+ghost use Rattle.kv_words.specs.Words.{Line, Tells};
 
 use crate::words::WordsFault;
-use std::alloc::Global;
+use clap::error::ErrorKind;
+use clap::{Arg, ArgAction, ArgMatches, Command};
+use std::alloc::{AllocError, Global};
 use std::marker::Model;
 
-/// An option of a command.
-#[derive(Clone, Copy, Debug, PartialEq, Eq)]
-pub enum OptionName {
-    /// `--slots`: how many slots a class may have.
-    Slots,
-    /// `--cache`: how many pages the cache keeps.
-    Cache,
-}
-
-/// What the words behind the first one say so far.
+/// What the words behind the first one say.
 #[derive(Drop)]
 pub struct Heard<'a> {
     /// The plain words, in order.
@@ -26,168 +21,91 @@ pub struct Heard<'a> {
     pub slots: Vec<&'a str>,
     /// The values of `--cache`, in order.
     pub cache: Vec<&'a str>,
-    /// The option whose value is the next word.
-    pub waits: Option<OptionName>,
-    /// Whether all later words are plain.
-    pub trailing: bool,
 }
 
 impl<'a> Model for Heard<'a> {
     ghost use Rattle.std.specs.Prelude.{map};
-    ghost use Rattle.kv_words.specs.Words.{Said};
+    ghost use Rattle.kv_words.specs.Words.{Line};
 
-    ghost Value = { Said };
+    ghost Value = { Line };
 
     ghost view = { λ heard. record {
       plain = map (λ word. word.now) heard.plain.items;
       slots = map (λ word. word.now) heard.slots.items;
       cache = map (λ word. word.now) heard.cache.items;
-      waits = heard.waits;
-      trailing = heard.trailing;
     } };
 }
 
-/// What stands behind the front in a word that begins with it.
-fn behind<'a>(word: &'a str, front: &str) -> Option<&'a str>
-    ensures { MatchOption result (rest_behind front.now word.now ≡ None)
-        (λ rest. rest_behind front.now word.now ≡ Some rest.now) }
+/// The values of an argument, in order.
+fn values<'a>(alloc: Global, matches: &ArgMatches<'a>, id: &str) -> Result<Vec<&'a str>, AllocError>
+    ensures { IfOk result (λ all. map (λ value. value.now) all.items
+        ≡ values_at id.now (rows_of (found_of matches.now))) }
 {
-    word.strip_prefix(front)
+    match matches.get_raw(id) {
+        Some(values) => Vec::from_slice(alloc, values),
+        None => Ok(Vec::new(alloc)),
+    }
 }
 
-/// Whether the word begins with `-`.
-fn begins_with_dash(word: &str) -> bool
-    ensures { result ≡ is_dashed word.now }
+/// All that clap found.
+fn found<'a>(alloc: Global, matches: &ArgMatches<'a>) -> Result<Heard<'a>, AllocError>
+    ensures { IfOk result (λ heard. heard ≡ found_in matches.now) }
 {
-    word.as_bytes().first() == Some(&b'-')
+    let plain = values(alloc, matches, "words")?;
+    let slots = values(alloc, matches, "slots")?;
+    let cache = values(alloc, matches, "cache")?;
+    Ok(Heard {
+        plain,
+        slots,
+        cache,
+    })
 }
 
-impl<'a> Heard<'a> {
-    /// Before the first word.
-    fn new(alloc: Global) -> Heard<'a>
-        ensures { result ≡ nothing_said }
-    {
-        Heard {
-            plain: Vec::new(alloc),
-            slots: Vec::new(alloc),
-            cache: Vec::new(alloc),
-            waits: None,
-            trailing: false,
-        }
-    }
+/// The command as clap reads it: plain words and options, each any number of times.
+fn command<'a>(alloc: Global) -> Result<Command<'a>, AllocError>
+    ensures { IfOk result (λ command. app_of command ≡ asked_app) }
+{
+    let words = Arg::new(alloc, "words").action(ArgAction::Append);
+    let slots = Arg::new(alloc, "slots")
+        .long("slots")
+        .action(ArgAction::Append);
+    let cache = Arg::new(alloc, "cache")
+        .long("cache")
+        .action(ArgAction::Append);
+    Command::new(alloc, "kvell")
+        .no_binary_name(true)
+        .disable_help_flag(true)
+        .disable_version_flag(true)
+        .arg(words)?
+        .arg(slots)?
+        .arg(cache)
+}
 
-    /// Hears a plain word.
-    fn hear_plain(&mut self, word: &'a str) -> Result<(), WordsFault>
-        ensures { MatchResult result (λ _. self.new ≡ with_plain word.now self.old)
-            (λ fault. fault ≡ WordsFault.NoMemory) }
-    {
-        match self.plain.push(word) {
-            Ok(()) => Ok(()),
-            Err(_) => Err(WordsFault::NoMemory),
-        }
-    }
-
-    /// Hears the value of an option.
-    fn hear_value(&mut self, name: OptionName, value: &'a str) -> Result<(), WordsFault>
-        ensures { MatchResult result (λ _. self.new ≡ with_value name value.now self.old)
-            (λ fault. fault ≡ WordsFault.NoMemory) }
-    {
-        let pushed = match name {
-            OptionName::Slots => self.slots.push(value),
-            OptionName::Cache => self.cache.push(value),
-        };
-        self.waits = None;
-        match pushed {
-            Ok(()) => Ok(()),
-            Err(_) => Err(WordsFault::NoMemory),
-        }
-    }
-
-    /// Hears an option whose value is the next word.
-    fn hear_name(&mut self, word: &str) -> Result<(), WordsFault>
-        ensures { MatchResult result (λ _. name_said word.now self.old ≡ Some self.new)
-            (λ fault. name_said word.now self.old ≡ None) }
-    {
-        self.waits = Some(if word == "--slots" {
-            OptionName::Slots
-        } else if word == "--cache" {
-            OptionName::Cache
-        } else {
-            return Err(WordsFault::Usage);
-        });
-        Ok(())
-    }
-
-    /// Hears an option, with its value or without.
-    fn hear_option(&mut self, word: &'a str) -> Result<(), WordsFault>
-        ensures { MatchResult result (λ _. option_said word.now self.old ≡ Some self.new)
-            (λ fault. fault ≡ WordsFault.Usage → option_said word.now self.old ≡ None) }
-    {
-        if let Some(value) = behind(word, "--slots=") {
-            self.hear_value(OptionName::Slots, value)
-        } else if let Some(value) = behind(word, "--cache=") {
-            self.hear_value(OptionName::Cache, value)
-        } else {
-            self.hear_name(word)
-        }
-    }
-
-    /// Hears a word where none was waited for.
-    fn hear_word(&mut self, word: &'a str) -> Result<(), WordsFault>
-        ensures { MatchResult result (λ _. word_said word.now self.old ≡ Some self.new)
-            (λ fault. fault ≡ WordsFault.Usage → word_said word.now self.old ≡ None) }
-    {
-        if !begins_with_dash(word) || word == "-" {
-            return self.hear_plain(word);
-        }
-        if word == "--" {
-            self.trailing = true;
-            return Ok(());
-        }
-        self.hear_option(word)
-    }
-
-    /// Hears a word that is the value of an option, or isn't.
-    fn hear_next(&mut self, word: &'a str) -> Result<(), WordsFault>
-        ensures { MatchResult result (λ _. next_said self.old.waits word.now self.old ≡ Some self.new)
-            (λ fault. fault ≡ WordsFault.Usage → next_said self.old.waits word.now self.old ≡ None) }
-    {
-        match self.waits {
-            Some(_) if begins_with_dash(word) => Err(WordsFault::Usage),
-            Some(name) => self.hear_value(name, word),
-            None => self.hear_word(word),
-        }
-    }
-
-    /// Hears one word more.
-    #[tactic(auto, unfolding(crate::specs::Words::one_more))]
-    fn hear(&mut self, word: &'a str) -> Result<(), WordsFault>
-        ensures { MatchResult result (λ _. one_more self.old word.now ≡ Some self.new)
-            (λ fault. fault ≡ WordsFault.Usage → one_more self.old word.now ≡ None) }
-    {
-        if word.is_empty() {
-            return Err(WordsFault::Usage);
-        }
-        if self.trailing {
-            return self.hear_plain(word);
-        }
-        self.hear_next(word)
-    }
+/// Whether one of the words is empty.
+fn has_empty(words: &[String]) -> bool
+    ensures { result ≡ list_any (λ word. length (string_bytes word) == 0) words.now }
+{
+    words.iter().any(|word| word.is_empty())
 }
 
 /// Hears all words behind the first one.
 pub fn hear_all<'a>(alloc: Global, words: &'a [String]) -> Result<Heard<'a>, WordsFault>
-    ensures { MatchResult result (λ heard. all_said nothing_said
-        (map (λ word. string_bytes word) words.now) ≡ Some heard)
-        (λ fault. fault ≡ WordsFault.Usage → all_said nothing_said
-        (map (λ word. string_bytes word) words.now) ≡ None) }
+    ensures ok { IfOk result (Tells (map (λ word. string_bytes word) words.now)) }
+    ensures usage { result ≡ Err WordsFault.Usage → (line : Line)
+        → Tells (map (λ word. string_bytes word) words.now) line → ⊥ }
 {
-    let mut heard = Heard::new(alloc);
-    for word in words {
-        match heard.hear(word.as_str()) {
-            Ok(()) => {}
-            Err(fault) => return Err(fault),
-        }
+    if has_empty(words) {
+        return Err(WordsFault::Usage);
     }
-    Ok(heard)
+    let command = command(alloc)?;
+    match command.try_get_matches_from(words) {
+        Ok(matches) => match found(alloc, &matches) {
+            Ok(heard) => Ok(heard),
+            Err(_) => Err(WordsFault::NoMemory),
+        },
+        Err(error) => match error.kind() {
+            ErrorKind::OutOfMemory => Err(WordsFault::NoMemory),
+            _ => Err(WordsFault::Usage),
+        },
+    }
 }

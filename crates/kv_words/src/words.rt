@@ -174,10 +174,10 @@ pub fn read_words<'a>(alloc: Global, words: &'a [String]) -> Result<Command<'a>,
     let Some((first, rest)) = words.split_first() else {
         return Err(WordsFault::Usage);
     };
-    let heard = hear_all(alloc, rest)?;
-    if heard.waits.is_some() {
-        return Err(WordsFault::Usage);
-    }
+    let heard = match hear_all(alloc, rest) {
+        Ok(heard) => heard,
+        Err(fault) => return Err(fault),
+    };
     match command_of(first.as_str(), &heard) {
         Some(command) => Ok(command),
         None => Err(WordsFault::Usage),

@@ -1,13 +1,6 @@
-use crate::{
-    Command, Ended, Endings, OpenFault, Refused, WordsFault, read_words, run_words, status_line,
-};
-use kv_base::{Bytes, Calls, Cause, Limits, MemSink, MemSource, Replies};
-use kv_disk::{Disk, MemDisk};
-use kv_session::Ending;
-use kv_site::{MemSite, Site};
-use kv_slot::{put_head, put_item, put_tombstone};
+use crate::{Command, WordsFault, read_words};
 use std::alloc::Global;
-use std::test::*;
+use std::test::Fail;
 
 fn words_of(alloc: Global, words: &[&str]) -> Result<Vec<String>, Fail> {
     let mut all = Vec::new(alloc);
@@ -17,180 +10,181 @@ fn words_of(alloc: Global, words: &[&str]) -> Result<Vec<String>, Fail> {
     Ok(all)
 }
 
-// What `serve` asks of D, from standard input to standard output.
-fn served(slots: u32, cache: u32) -> Command<'static> {
-    Command::Serve {
-        folder: "D",
-        limits: Limits { slots, cache },
-        input: "-",
-        output: "-",
+// Which command words are, and its numbers: of `serve` slots and pages, of a report the workers.
+type Asked = (u8, u32, u32);
+
+const NONE: Asked = (0, 0, 0);
+
+// No clause says what it is: its callers compare numbers.
+fn asked(alloc: Global, words: &[String]) -> Asked {
+    match read_words(alloc, words) {
+        Ok(Command::Serve { limits, .. }) => (1, limits.slots, limits.cache),
+        Ok(Command::Check { workers, .. }) => (2, workers, 0),
+        Ok(Command::Dump { workers, .. }) => (3, workers, 0),
+        Err(WordsFault::Usage) => NONE,
+        Err(WordsFault::NoMemory) => (4, 0, 0),
     }
 }
 
+type Row = (&'static [&'static str], Asked);
+
 const SLOTS: u32 = 1 << 20;
+
+static GOOD: [Row; 19] = [
+    (&["serve", "D", "1", "-", "-"], (1, SLOTS, 256)),
+    (&["serve", "--slots", "5", "D", "1", "-", "-"], (1, 5, 256)),
+    (&["serve", "D", "--slots=5", "1", "-", "-"], (1, 5, 256)),
+    (
+        &["serve", "D", "1", "-", "-", "--cache", "7"],
+        (1, SLOTS, 7),
+    ),
+    (
+        &["serve", "D", "1", "--cache=1", "-", "-", "--slots=2"],
+        (1, 2, 1),
+    ),
+    (
+        &["serve", "D", "1", "-", "-", "--slots=16777216"],
+        (1, 1 << 24, 256),
+    ),
+    (
+        &["serve", "D", "1", "-", "-", "--cache=1024"],
+        (1, SLOTS, 1024),
+    ),
+    (&["serve", "D", "+1", "-", "-"], (1, SLOTS, 256)),
+    (&["serve", "D", "001", "-", "-"], (1, SLOTS, 256)),
+    (
+        &["serve", "--slots", "+007", "D", "1", "-", "-"],
+        (1, 7, 256),
+    ),
+    (&["serve", "--", "D", "1", "-", "-"], (1, SLOTS, 256)),
+    (
+        &["serve", "--slots=3", "--", "--slots=4", "1", "-x", "--"],
+        (1, 3, 256),
+    ),
+    (&["check", "-", "16"], (2, 16, 0)),
+    (&["check", "D", "--", "1"], (2, 1, 0)),
+    (&["check", "--", "--", "2"], (2, 2, 0)),
+    (&["check", "--", "-D", "+016"], (2, 16, 0)),
+    (&["check", "D", "3", "--"], (2, 3, 0)),
+    (&["dump", "D", "007"], (3, 7, 0)),
+    (&["dump", "check", "4"], (3, 4, 0)),
+];
+
+static OTHER: [&[&str]; 26] = [
+    &[],
+    &[""],
+    &["serve"],
+    &["Serve", "D", "1", "-", "-"],
+    &["help"],
+    &["--help"],
+    &["serve", "--help"],
+    &["serve", "--version"],
+    &["serve", "D", "17", "-", "-"],
+    &["serve", "D", "0", "-", "-"],
+    &["serve", "D", "2", "-", "-"],
+    &["serve", "D", "1", "-"],
+    &["serve", "D", "1", "-", "-", "-"],
+    &["serve", "D", "1", "-", "-", "-", "-"],
+    &["serve", "D", "1", "", "-"],
+    &["serve", "", "1", "-", "-"],
+    &["serve", "--", "", "1", "-", "-"],
+    &["serve", "D", "1", "-x", "-"],
+    &["serve", "-D", "1", "-", "-"],
+    &["serve", "D", "one", "-", "-"],
+    &["serve", "D", "+", "-", "-"],
+    &["serve", "D", "++1", "-", "-"],
+    &["serve", "D", "1 ", "-", "-"],
+    &["serve", "D", "18446744073709551617", "-", "-"],
+    &["serve", "D", "4294967297", "-", "-"],
+    &["try", "7", "0", "1"],
+];
+
+static OTHER_OPTIONS: [&[&str]; 21] = [
+    &["serve", "D", "1", "-", "-", "--slots"],
+    &["serve", "D", "1", "-", "-", "--slots="],
+    &["serve", "D", "1", "-", "-", "--slots=0"],
+    &["serve", "D", "1", "-", "-", "--slots=16777217"],
+    &["serve", "D", "1", "-", "-", "--slots=18446744073709551621"],
+    &["serve", "D", "1", "-", "-", "--slots=5", "--slots=5"],
+    &["serve", "--slots", "5", "D", "1", "-", "-", "--slots=5"],
+    &["serve", "D", "1", "-", "-", "--slots=5=5"],
+    &["serve", "--slots", "", "D", "1", "-", "-"],
+    &["serve", "D", "1", "-", "-", "--cache=0"],
+    &["serve", "D", "1", "-", "-", "--cache=1025"],
+    &["serve", "D", "1", "-", "-", "--cache", "-5"],
+    &["serve", "D", "1", "-", "-", "--cache", "-"],
+    &["serve", "--slots", "--", "5", "D", "1", "-", "-"],
+    &["serve", "D", "1", "-", "-", "--slot=5"],
+    &["serve", "D", "1", "-", "-", "-s", "5"],
+    &["check", "D"],
+    &["check", "D", "17"],
+    &["check", "D", "1", "--cache=5"],
+    &["dump", "D", "1", "-"],
+    &["dump", "D", "-1"],
+];
+
+fn good() -> &'static [Row] {
+    &GOOD
+}
+
+fn other() -> &'static [&'static [&'static str]] {
+    &OTHER
+}
+
+fn other_options() -> &'static [&'static [&'static str]] {
+    &OTHER_OPTIONS
+}
+
+fn is_asked(alloc: Global, words: &[&str], wanted: Asked) -> Result<bool, Fail> {
+    let words = words_of(alloc, words)?;
+    Ok(asked(alloc, &words) == wanted)
+}
 
 #[test]
 fn good_words_are_read(rt: HostRuntime) -> Result<(), Fail> {
-    let alloc = rt.alloc();
-    let rows: [(&[&str], Command<'static>); 19] = [
-        (&["serve", "D", "1", "-", "-"], served(SLOTS, 256)),
-        (
-            &["serve", "--slots", "5", "D", "1", "-", "-"],
-            served(5, 256),
-        ),
-        (&["serve", "D", "--slots=5", "1", "-", "-"], served(5, 256)),
-        (
-            &["serve", "D", "1", "-", "-", "--cache", "7"],
-            served(SLOTS, 7),
-        ),
-        (
-            &["serve", "D", "1", "--cache=1", "-", "-", "--slots=2"],
-            served(2, 1),
-        ),
-        (
-            &["serve", "D", "1", "-", "-", "--slots=16777216"],
-            served(1 << 24, 256),
-        ),
-        (
-            &["serve", "D", "1", "-", "-", "--cache=1024"],
-            served(SLOTS, 1024),
-        ),
-        (&["serve", "D", "+1", "-", "-"], served(SLOTS, 256)),
-        (&["serve", "D", "001", "-", "-"], served(SLOTS, 256)),
-        (
-            &["serve", "--slots", "+007", "D", "1", "-", "-"],
-            served(7, 256),
-        ),
-        (&["serve", "--", "D", "1", "-", "-"], served(SLOTS, 256)),
-        (
-            &["serve", "--slots=3", "--", "--slots=4", "1", "-x", "--"],
-            Command::Serve {
-                folder: "--slots=4",
-                limits: Limits {
-                    slots: 3,
-                    cache: 256,
-                },
-                input: "-x",
-                output: "--",
-            },
-        ),
-        (
-            &["check", "-", "16"],
-            Command::Check {
-                folder: "-",
-                workers: 16,
-            },
-        ),
-        (
-            &["check", "D", "--", "1"],
-            Command::Check {
-                folder: "D",
-                workers: 1,
-            },
-        ),
-        (
-            &["check", "--", "--", "2"],
-            Command::Check {
-                folder: "--",
-                workers: 2,
-            },
-        ),
-        (
-            &["check", "--", "-D", "+016"],
-            Command::Check {
-                folder: "-D",
-                workers: 16,
-            },
-        ),
-        (
-            &["check", "D", "3", "--"],
-            Command::Check {
-                folder: "D",
-                workers: 3,
-            },
-        ),
-        (
-            &["dump", "D", "007"],
-            Command::Dump {
-                folder: "D",
-                workers: 7,
-            },
-        ),
-        (
-            &["dump", "check", "4"],
-            Command::Dump {
-                folder: "check",
-                workers: 4,
-            },
-        ),
-    ];
-    for (words, wanted) in rows {
-        let words = words_of(alloc, words)?;
-        assert!(rt;
-            read_words(alloc, words.as_slice()) == Ok(wanted),
-            "good words"
-        );
+    for (words, wanted) in good() {
+        assert!(rt; is_asked(rt.alloc(), words, *wanted)?, "{words:?}");
     }
     Ok(())
 }
 
 #[test]
 fn other_words_are_usage(rt: HostRuntime) -> Result<(), Fail> {
-    let alloc = rt.alloc();
-    let rows: [&[&str]; 45] = [
-        &[],
-        &[""],
-        &["serve"],
-        &["Serve", "D", "1", "-", "-"],
-        &["help"],
-        &["--help"],
-        &["serve", "--help"],
-        &["serve", "--version"],
-        &["serve", "D", "17", "-", "-"],
-        &["serve", "D", "0", "-", "-"],
-        &["serve", "D", "2", "-", "-"],
-        &["serve", "D", "1", "-"],
-        &["serve", "D", "1", "-", "-", "-"],
-        &["serve", "D", "1", "-", "-", "-", "-"],
-        &["serve", "D", "1", "", "-"],
-        &["serve", "", "1", "-", "-"],
-        &["serve", "--", "", "1", "-", "-"],
-        &["serve", "D", "1", "-x", "-"],
-        &["serve", "-D", "1", "-", "-"],
-        &["serve", "D", "one", "-", "-"],
-        &["serve", "D", "+", "-", "-"],
-        &["serve", "D", "++1", "-", "-"],
-        &["serve", "D", "1 ", "-", "-"],
-        &["serve", "D", "18446744073709551617", "-", "-"],
-        &["serve", "D", "4294967297", "-", "-"],
-        &["serve", "D", "1", "-", "-", "--slots"],
-        &["serve", "D", "1", "-", "-", "--slots="],
-        &["serve", "D", "1", "-", "-", "--slots=0"],
-        &["serve", "D", "1", "-", "-", "--slots=16777217"],
-        &["serve", "D", "1", "-", "-", "--slots=5", "--slots=5"],
-        &["serve", "--slots", "5", "D", "1", "-", "-", "--slots=5"],
-        &["serve", "D", "1", "-", "-", "--slots=5=5"],
-        &["serve", "D", "1", "-", "-", "--cache=0"],
-        &["serve", "D", "1", "-", "-", "--cache=1025"],
-        &["serve", "D", "1", "-", "-", "--cache", "-5"],
-        &["serve", "D", "1", "-", "-", "--cache", "-"],
-        &["serve", "--slots", "--", "5", "D", "1", "-", "-"],
-        &["serve", "D", "1", "-", "-", "--slot=5"],
-        &["serve", "D", "1", "-", "-", "-s", "5"],
-        &["check", "D"],
-        &["check", "D", "17"],
-        &["check", "D", "1", "--cache=5"],
-        &["dump", "D", "1", "-"],
-        &["dump", "D", "-1"],
-        &["try", "7", "0", "1"],
-    ];
-    for words in rows {
-        let words = words_of(alloc, words)?;
-        assert!(rt;
-            read_words(alloc, words.as_slice()) == Err(WordsFault::Usage),
-            "no command"
-        );
+    for words in other() {
+        assert!(rt; is_asked(rt.alloc(), words, NONE)?, "{words:?}");
     }
     Ok(())
 }
 
+#[test]
+fn other_options_are_usage(rt: HostRuntime) -> Result<(), Fail> {
+    for words in other_options() {
+        assert!(rt; is_asked(rt.alloc(), words, NONE)?, "{words:?}");
+    }
+    Ok(())
+}
+
+// Whether the words are `serve` with these words in place of a folder, an input and an output.
+fn is_serve(words: &[String], folder: &str, input: &str, output: &str, alloc: Global) -> bool {
+    match read_words(alloc, words) {
+        Ok(
+            Command::Serve {
+                folder: f,
+                input: i,
+                output: o,
+                ..
+            },
+        ) => f == folder && i == input && o == output,
+        _ => false,
+    }
+}
+
+#[test]
+fn each_word_has_its_place(rt: HostRuntime) -> Result<(), Fail> {
+    let alloc = rt.alloc();
+    let words = words_of(alloc, &["serve", "D", "--slots", "3", "1", "in", "out"])?;
+    assert!(rt; is_serve(&words, "D", "in", "out", alloc));
+    let words = words_of(alloc, &["serve", "--", "--slots=4", "1", "-x", "--"])?;
+    assert!(rt; is_serve(&words, "--slots=4", "-x", "--", alloc));
+    Ok(())
+}

@@ -1,7 +1,7 @@
 -- Disks and a sink that a report took are given back.
 use Rattle.std.proofs.Common.{◌≡◌, ◌≢◌, ◌⊎◌, inl, inr, ℕ, zero, suc, ◌<◌, ◌≤◌, ◌+◌, List, [], ◌∷◌}
 use Rattle.std.proofs.Common.{◌++◌, length, take, drop, slice_get, Some, None, Option, Result, Ok, Err, IsTrue}
-use Rattle.std.proofs.Common.{refl, sym, ap, subst, ◌∙◌, arith, length-append, ⊎_elim}
+use Rattle.std.proofs.Common.{refl, sym, ap, subst, ◌∙◌, arith, append_assoc, length-append, ⊎_elim}
 use Rattle.std.specs.Str.{bytes_eq}
 use Rattle.std.proofs.lemmas.Bool.{cases_Bool, cases_eq, false≢true}
 use Rattle.std.proofs.lemmas.Option.{same_Some, slice_get_within}
@@ -34,6 +34,11 @@ get-there : {A : Type 0} (xs ys : List A) (x y : A)
     → slice_get ((xs ++ x ∷ []) ++ ys) (length xs) ≡ Some y → x ≡ y
 get-there [] ys x y at = same_Some x y at
 get-there (z ∷ zs) ys x y at = get-there zs ys x y at
+
+-- the one before a list goes to its front
+pub one-more : {A : Type 0} (all left given : List A) (x : A) → all ≡ (left ++ x ∷ []) ++ given
+    → all ≡ left ++ x ∷ given
+one-more all left given x is = is ∙ append_assoc left (x ∷ []) given
 
 -- a list that was lent whole, with what was written
 pub lent-back : {A : Type 0} (olds news : List A) → length news ≡ length olds

@@ -14,7 +14,7 @@ fn is_report(left: &Left, text: &str) -> bool {
     left.ended.status == 0
         && left.ended.refused.is_none()
         && left.ended.endings.as_slice().is_empty()
-        && left.output == text.as_bytes()
+        && left.output.as_slice() == text.as_bytes()
 }
 
 // What is counted, and what is listed, of a disk.

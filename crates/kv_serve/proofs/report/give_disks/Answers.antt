@@ -1,9 +1,9 @@
 -- One disk more is given back.
 use Rattle.std.proofs.Common.{◌≡◌, ◌≤◌, ◌∷◌, [], ◌++◌, length, IsTrue, refl, sym, ap, ◌∙◌, subst, arith}
-use Rattle.std.proofs.Common.{append-nil, append_assoc, length-append, rules}
+use Rattle.std.proofs.Common.{append-nil, length-append, rules}
 use Rattle.std.proofs.lemmas.Bool.{false≢true}
 use Rattle.kv_site.specs.Held.{GivesDisk}
-use Rattle.kv_serve.proofs.ReportLemmas.{GivesFrom, gives-none, gives-next, gives-all, none-left}
+use Rattle.kv_serve.proofs.ReportLemmas.{GivesFrom, gives-none, gives-next, gives-all, none-left, one-more}
 use Rattle.kv_serve.proofs.report.give_disks.Goals as goal
 
 pub loop-disk-init : goal.loop-disk-init
@@ -31,7 +31,7 @@ loop-disk-preserved g c =
     let all : c.args.disks.items ≡ (left ++ disk ∷ []) ++ rest.0 =
     rest.1 ∙ ap (λ l. l ++ rest.0) c.in-Some.ensures.last in
     record {
-      rest = (disk ∷ rest.0, all ∙ append_assoc left (disk ∷ []) rest.0);
+      rest = (disk ∷ rest.0, one-more c.args.disks.items left rest.0 disk all);
       gives = λ t folder home. gives-next (g.S.Site.holds c.args.site.now)
           (g.S.Site.holds c.loop-disk.site) (g.S.Site.holds c.give_disk.new.self) folder
           c.args.disks.items left rest.0 disk all home

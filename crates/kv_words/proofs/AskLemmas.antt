@@ -1,5 +1,5 @@
 -- Words ask one command at most.
-use Rattle.std.proofs.Common.{◌≡◌, ℕ, List, [], ◌∷◌, Some, codes, get_or, refl, sym, ap, ◌∙◌, subst}
+use Rattle.std.proofs.Common.{◌≡◌, ℕ, List, [], ◌∷◌, codes, get_or, refl, sym, ap, ◌∙◌, subst}
 use Rattle.std.proofs.Common.{arith, ◌<◌, lit<}
 use Rattle.std.proofs.lemmas.Option.{same_Some}
 use Rattle.kv_base.specs.declared.limits.Limits.{Limits}

@@ -1,12 +1,8 @@
 -- Words are read one by one.
-use Rattle.std.proofs.Common.{◌≡◌, ◌≢◌, ◌⊎◌, inl, inr, ℕ, zero, suc, ◌+◌, ◌≤◌, ◌^◌, List, [], ◌∷◌, ◌++◌}
-use Rattle.std.proofs.Common.{length, map, drop, slice_get, get_or, Option, None, Some, MatchOption}
-use Rattle.std.proofs.Common.{refl, sym, ap, ◌∙◌, subst, arith}
-use Rattle.std.specs.Prelude.{if◌then◌else◌, option_and_then}
+use Rattle.std.proofs.Common.{◌≡◌, ℕ, ◌≤◌, ◌^◌, List, [], ◌∷◌}
+use Rattle.std.proofs.Common.{length, map, get_or}
+use Rattle.std.proofs.Common.{refl, subst, arith}
 use Rattle.std.specs.Borrow.{Bor}
-use Rattle.std.specs.Str.Pattern.{FindsTextPrefix}
-use Rattle.std.proofs.lemmas.Bool.Decides.{eqb_tells}
-use Rattle.std.proofs.lemmas.Option.{same_Some}
 use Rattle.kv_base.specs.Limits.{AreLimits}
 use Rattle.kv_base.specs.declared.limits.Limits.{Limits}
 use Rattle.kv_words.specs.Words.{Text, Line, AreLimitsOf, IsLimit, IsNumberIn}

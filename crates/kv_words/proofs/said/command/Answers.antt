@@ -1,7 +1,7 @@
 -- Each builder changes its own field.
 use Rattle.std.proofs.Common.{◌≡◌, ◌∙◌, ap, ap₂, codes, rules, true, None, Some}
 use Rattle.std.proofs.lemmas.Result.{IfOk-weaker}
-use Rattle.clap.specs.Simple.{App, Shape, app_of, app_of_fields, new_app, on_top, with_rule}
+use Rattle.clap.specs.Simple.{App, app_of, app_of_fields, new_app, on_top, with_rule}
 use Rattle.clap.specs.Walk.{rule_of}
 use Rattle.kv_words.specs.Parsed.{asked_rule}
 use Rattle.kv_words.proofs.said.command.Goals as goal

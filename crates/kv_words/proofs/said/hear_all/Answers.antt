@@ -1,7 +1,6 @@
 -- What clap finds is what the words say.
-use Rattle.std.proofs.Common.{◌≡◌, [], ◌∙◌, ap, false, length, map, string_bytes, subst, sym}
+use Rattle.std.proofs.Common.{◌≡◌, [], ◌∙◌, ap, length, map, string_bytes, subst, sym}
 use Rattle.std.specs.Prelude.{◌==◌}
-use Rattle.std.specs.List.{list_any}
 use Rattle.clap.proofs.WalkLemmas.{list_any-map}
 use Rattle.clap.specs.Faults.{fault_of, is_simple_and_free}
 use Rattle.clap.specs.Kinds.{HasKind}
@@ -10,8 +9,8 @@ use Rattle.clap.specs.Simple.{app_of, is_simple, matches_of}
 use Rattle.clap.specs.Walk.{rows_of}
 use Rattle.kv_words.specs.Parsed.{asked_app}
 use Rattle.kv_words.specs.Words.{Tells}
-use Rattle.kv_words.proofs.ClapLemmas.{are-words, faulty, simple, simple-and-free, tells, tells-none}
-use Rattle.kv_words.proofs.ClapLemmas.{tells-not-empty}
+use Rattle.kv_words.proofs.ClapState.{simple, simple-and-free}
+use Rattle.kv_words.proofs.ClapLemmas.{are-words, faulty, tells, tells-none, tells-not-empty}
 use Rattle.kv_words.proofs.said.hear_all.Goals as goal
 
 pub returns-then-has_empty-clause-usage : goal.returns-then-has_empty-clause-usage

@@ -1,5 +1,5 @@
 -- No other number can stand there.
-use Rattle.std.proofs.Common.{◌≡◌, sym, ◌∙◌, subst, arith, map, length, ap, get_or, []}
+use Rattle.std.proofs.Common.{◌≡◌, sym, ◌∙◌, subst, arith, map, length, ap, []}
 use Rattle.std.specs.Borrow.{Bor}
 use Rattle.kv_words.specs.Words.{IsNumberIn, Text}
 use Rattle.kv_words.proofs.WordsLemmas.{two-words, second-of}

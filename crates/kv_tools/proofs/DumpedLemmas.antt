@@ -1,5 +1,5 @@
 -- One line more is put.
-use Rattle.std.proofs.Common.{◌≡◌, ◌⊎◌, inl, inr, ℕ, zero, suc, ◌+◌, ◌<◌, List, [], ◌∷◌, ◌++◌, length}
+use Rattle.std.proofs.Common.{◌≡◌, inl, inr, ℕ, zero, suc, ◌+◌, ◌<◌, List, [], ◌∷◌, ◌++◌, length}
 use Rattle.std.proofs.Common.{map, take, drop, slice_get, get_or, Some, Ok, Err, Result, Option, IsTrue}
 use Rattle.std.proofs.Common.{Contains, refl, sym, ap, ◌∙◌, subst, arith, ◌≢◌}
 use Rattle.std.specs.List.{concat}
@@ -10,8 +10,7 @@ use Rattle.std.proofs.lemmas.List.{map-append}
 use Rattle.std.proofs.lemmas.Option.{same_Some, slice_get_within}
 use Rattle.kv_base.specs.Calls.{next_count}
 use Rattle.kv_base.specs.Image.{Image}
-use Rattle.kv_base.specs.Stream.{Takes}
-use Rattle.kv_base.proofs.StreamLemmas.{Takes-nil, Takes-trans}
+use Rattle.kv_base.proofs.StreamLemmas.{Takes-nil}
 use Rattle.kv_disk.specs.declared.disk.Disk.{Ghosts}
 use Rattle.kv_disk.proofs.StepsLemmas.{reads-then}
 use Rattle.kv_model.specs.Layout.{all_classes}
@@ -25,7 +24,7 @@ use Rattle.kv_tools.specs.declared.fault.ToolFault.{ToolFault}
 use Rattle.kv_tools.specs.declared.fault.ToolFault.TheVariants.{Store, DiskFault, SinkFault, NoMemory}
 use Rattle.kv_tools.specs.declared.merge.Listed.{Listed}
 use Rattle.kv_tools.specs.Disks.{ReadsAll, CountsAll}
-use Rattle.kv_tools.specs.Dumped.{AreItemsOf, ArePlaced, DumpsFront, DumpsUntil, IsKeptIn, IsKeptOn}
+use Rattle.kv_tools.specs.Dumped.{DumpsFront, DumpsUntil, IsKeptIn, IsKeptOn}
 use Rattle.kv_tools.specs.Dumped.{line_in, line_of, lines_of}
 use Rattle.kv_tools.specs.DumpedDisk.{IsLineFault, IsLinesFault, IsListFault}
 use Rattle.kv_tools.specs.Faults.{HasReportCause, disk_faults, sink_faults, value_fault_of}

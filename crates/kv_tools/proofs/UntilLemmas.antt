@@ -1,10 +1,9 @@
 -- How far a report of items came.
-use Rattle.std.proofs.Common.{◌≡◌, ℕ, List, [], ◌++◌, length, Option, Ok, Err, IsTrue, refl, sym, ap}
+use Rattle.std.proofs.Common.{◌≡◌, ℕ, List, [], ◌++◌, length, Option, Ok, Err, IsTrue, sym, ap}
 use Rattle.std.proofs.Common.{◌∙◌, subst, append_assoc}
 use Rattle.kv_base.specs.Stream.{Takes}
 use Rattle.kv_base.proofs.StreamLemmas.{Takes-trans}
 use Rattle.kv_disk.specs.declared.disk.Disk.{Ghosts}
-use Rattle.kv_tools.specs.declared.fault.ToolFault.{ToolFault}
 use Rattle.kv_tools.specs.declared.fault.ToolFault.TheVariants.{SinkFault}
 use Rattle.kv_tools.specs.declared.merge.Listed.{Listed}
 use Rattle.kv_tools.specs.Disks.{ReadsAll, CountsAll}

@@ -1,6 +1,6 @@
 -- The report of all items that disks keep.
 use Rattle.std.specs.Prelude.{◌≡◌, ◌<◌, ◌⊎◌, ℕ, List, [], map, length, slice_get, Some, IsTrue, Option}
-use Rattle.std.specs.Prelude.{Contains, ⊤}
+use Rattle.std.specs.Prelude.{Contains}
 use Rattle.std.specs.List.{concat}
 use Rattle.std.specs.Option.{option_map_or}
 use Rattle.kv_base.specs.Image.{Image}
@@ -87,8 +87,8 @@ pub record DumpsFront {D : Type 0} (d : Ghosts D) (disks : List D)
   pub items_are : AreItemsOf d disks (length disks) items
   pub took : TakesSome before now (lines_of d disks items)
 
--- how far the report came: to nothing where a disk was refused, the first one that is no store of
--- its worker, or to some byte
+-- how far the report came: to nothing where a disk was refused, behind disks that open as stores, or
+-- to some byte
 abbrev pub DumpsUntil : {D : Type 0} → Ghosts D → List D → Option (List ℕ) → Option (List ℕ)
     → ToolFault → Type 0
 DumpsUntil d disks before now (Store worker fault) = Takes before now []

@@ -43,7 +43,8 @@ fn check_disk<D: Disk, Si: Sink>(
 /// Reports what stands on the disks of a store, 1 to 16, the first one that of worker 0 and so on:
 /// how many slots of each class are of which kind, the floor and the number of keys. It only reads.
 /// Each disk's lines go to the sink as one piece. The first disk that is refused ends the report
-/// behind the lines of the disks before it; where the sink fails, it holds a front of them.
+/// behind the lines of the disks before it, and so may want of memory at any disk. Where the sink
+/// fails, it holds a front of the lines.
 pub fn check_all<D: Disk, Si: Sink>(
     alloc: Global,
     disks: &mut [D],

@@ -89,7 +89,8 @@ fn put_lines<D: Disk, Si: Sink>(
 /// Reports all items that the disks of a store keep, 1 to 16, the first one that of worker 0 and so
 /// on: a line for each item, by rising key. It only reads. Before the first line it takes memory for
 /// all keys. Lines go to the sink in pieces of some 64 KB. A disk that is refused leaves the report
-/// without a line; where a read or the sink fails, the sink has a front of the lines.
+/// without a line. Where a read or the sink fails, the sink has a front of the lines; where memory
+/// is wanting, nothing or such a front.
 pub fn dump_all<D: Disk, Si: Sink>(
     alloc: Global,
     disks: &mut [D],

@@ -225,8 +225,8 @@ fn a_disk_that_fails_ends_the_report(rt: HostRuntime) -> Result<(), Fail> {
 fn turned(
     alloc: Global,
 ) -> Result<(Result<(), ToolFault>, Result<(), ToolFault>, bool), ToolFault> {
-    let [first, second] = two_disks(alloc)?;
-    let mut disks = [second, first];
+    let mut disks = two_disks(alloc)?;
+    disks.swap(0, 1);
     let mut out = MemSink::new(alloc, ROOM, Calls::none())?;
     let listed = dump_all(alloc, &mut disks, &mut out);
     let counted = check_all(alloc, &mut disks, &mut out);

@@ -1,5 +1,5 @@
 -- The items of the disks so far are listed.
-use Rattle.std.proofs.Common.{◌≡◌, Ok, IsTrue}
+use Rattle.std.proofs.Common.{Ok, IsTrue}
 use Rattle.kv_tools.specs.Disks.{ReadsAll, CountsAll}
 use Rattle.kv_tools.specs.Dumped.{AreItemsOf, ArePlaced}
 use Rattle.kv_tools.proofs.list.list_all.Given as goal

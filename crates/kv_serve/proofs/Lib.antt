@@ -18,3 +18,6 @@ pub mod BeginLemmas
 pub mod KeyLemmas
 pub mod FullLemmas
 pub mod CauseLemmas
+pub mod ReportLemmas
+pub mod CommandLemmas
+pub mod StatusLemmas

@@ -19,5 +19,4 @@ pub mod KeyLemmas
 pub mod FullLemmas
 pub mod CauseLemmas
 pub mod ReportLemmas
-pub mod CommandLemmas
 pub mod StatusLemmas

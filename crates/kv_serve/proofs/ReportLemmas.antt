@@ -1,18 +1,17 @@
 -- Disks and a sink that a report took are given back.
-use Rattle.std.proofs.Common.{◌≡◌, ◌≢◌, ◌⊎◌, inl, inr, ℕ, zero, suc, ◌<◌, ◌≤◌, ◌+◌, List, [], ◌∷◌}
-use Rattle.std.proofs.Common.{◌++◌, length, take, drop, slice_get, Some, None, Option, Result, Ok, Err, IsTrue}
-use Rattle.std.proofs.Common.{refl, sym, ap, subst, ◌∙◌, arith, append_assoc, length-append, ⊎_elim}
+use Rattle.std.proofs.Common.{◌≡◌, ◌⊎◌, inl, inr, ℕ, zero, suc, ◌<◌, ◌≤◌, ◌+◌, List, [], ◌∷◌}
+use Rattle.std.proofs.Common.{◌++◌, length, take, drop, slice_get, Some, Option, Err}
+use Rattle.std.proofs.Common.{refl, sym, ap, ◌∙◌, arith, append_assoc, length-append, ⊎_elim}
 use Rattle.std.specs.Str.{bytes_eq}
 use Rattle.std.proofs.lemmas.Bool.{cases_Bool, cases_eq, false≢true}
 use Rattle.std.proofs.lemmas.Option.{same_Some, slice_get_within}
 use Rattle.std.proofs.lemmas.Slice.Eq.{bytes_eq-Decides}
-use Rattle.kv_base.specs.Calls.{next_count}
 use Rattle.kv_site.specs.FileSite.{Counts}
 use Rattle.kv_site.specs.Held.{Held, SessionsStay, ReportStays, TakesDisk, GivesDisk}
 use Rattle.kv_site.specs.Held.{TakesReport, GivesReport}
 use Rattle.kv_site.specs.declared.fault.TakeFault.{TakeFault}
 use Rattle.kv_site.specs.declared.fault.TakeFault.TheVariants.{Failed, NoMemory}
-use Rattle.kv_serve.specs.Report.{AllKept, AreHome, CountsTakes, GivesDisks, IsTakeRefusal}
+use Rattle.kv_serve.specs.Report.{AllKept, AreHome, GivesDisks, IsTakeRefusal}
 use Rattle.kv_serve.specs.Report.{RefusesReport, ReturnsAll, TookDisks}
 use Rattle.kv_serve.specs.Serve.{Outside}
 use Rattle.kv_serve.specs.declared.ended.Refused.{Refused}

@@ -1,5 +1,5 @@
 -- The disks from some worker on are given back.
-use Rattle.std.proofs.Common.{◌≡◌, ◌≤◌, ℕ, List, ◌++◌, IsTrue, length}
+use Rattle.std.proofs.Common.{◌≡◌, ℕ, List, ◌++◌, IsTrue, length}
 use Rattle.kv_serve.specs.Report.{AreHome}
 use Rattle.kv_serve.proofs.ReportLemmas.{GivesFrom}
 use Rattle.kv_serve.proofs.report.give_disks.Given as goal

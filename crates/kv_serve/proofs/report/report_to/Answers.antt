@@ -1,5 +1,5 @@
 -- The report is made, or what was taken comes back as it was.
-use Rattle.std.proofs.Common.{IsTrue, Err, refl, sym, ◌∙◌, inl, subst, subst₂}
+use Rattle.std.proofs.Common.{Err, refl, sym, ◌∙◌, inl, subst, subst₂}
 use Rattle.kv_site.specs.FileSite.{Counts}
 use Rattle.kv_serve.specs.Report.{IsReported}
 use Rattle.kv_serve.specs.Serve.{outside_of}

@@ -1,5 +1,5 @@
 -- One session more, or the first that didn't end with End.
-use Rattle.std.proofs.Common.{◌≡◌, ◌∷◌, [], ◌∙◌, ap, codes, refl, sym, Some, None, string_bytes, rules}
+use Rattle.std.proofs.Common.{◌≡◌, ◌∷◌, [], ◌∙◌, ap, codes, refl, sym, Some, string_bytes, rules}
 use Rattle.std.specs.Prelude.{IfOk, option_map}
 use Rattle.std.specs.Fmt.{decimal}
 use Rattle.std.specs.List.{concat}

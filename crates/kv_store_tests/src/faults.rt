@@ -90,6 +90,22 @@ fn is_read_so(
     is_refused(alloc, case, turn, batches, &mut worker)
 }
 
+// The disk where this write or sync of the batch fails, if that closes the worker.
+fn closed_disk(
+    alloc: Global,
+    case: &Case,
+    turn: &Turn,
+    count: usize,
+    call: u32,
+) -> Result<Option<MemDisk>, Fail> {
+    let mut worker = failing(alloc, case, count, call)?;
+    if is_closed(alloc, turn, &mut worker)? {
+        Ok(Some(worker.into_disk()))
+    } else {
+        Ok(None)
+    }
+}
+
 // Whether the batch goes as it should where this write or sync fails, behind so many others.
 fn is_written_so(
     alloc: Global,
@@ -99,12 +115,10 @@ fn is_written_so(
     call: u32,
     others: u32,
 ) -> Result<bool, Fail> {
-    let mut worker = failing(alloc, case, batches.0, call)?;
-    if !is_closed(alloc, turn, &mut worker)? {
-        return Ok(false);
+    match closed_disk(alloc, case, turn, batches.0, call)? {
+        Some(disk) => leaves_values(alloc, case, batches, &disk, others.saturating_add(1)),
+        None => Ok(false),
     }
-    let disk = worker.into_disk();
-    leaves_values(alloc, case, batches, &disk, others.saturating_add(1))
 }
 
 // Whether the batch goes as it should where this one of its calls fails.

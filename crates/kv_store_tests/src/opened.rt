@@ -61,7 +61,7 @@ pub fn is_left(
 }
 
 // Whether the disk opens as it is told when a crash at this moment leaves of the pages that wait
-// none, the first and the third, or all.
+// none, each choice of the first two, the first and the third, or all.
 fn stops_as(
     alloc: Global,
     case: &Case,
@@ -69,7 +69,7 @@ fn stops_as(
     moment: u32,
     plain: &Plain,
 ) -> Result<bool, Fail> {
-    for bits in [0, 5, 31] {
+    for bits in [0, 1, 2, 3, 5, 31] {
         let disk = left(disk, moment, bits)?;
         if !opens_as(alloc, disk, limits_of(case), case.keys, plain)? {
             return Ok(false);

@@ -7,7 +7,7 @@ use std::alloc::Global;
 use std::test::Fail;
 
 // Whether a crash leaves each key its value behind the one batch or the other, whatever it leaves
-// of the waiting pages, of which there are so many at most. Each fifth opening is stopped too.
+// of the waiting pages, of which there are so many at most. Each opening is stopped too.
 fn leaves_values(
     alloc: Global,
     case: &Case,
@@ -20,7 +20,7 @@ fn leaves_values(
         if !is_left(alloc, case, disk, moment, bits, batches)? {
             return Ok(false);
         }
-        if bits % 5 == 0 && !opens_again(alloc, case, disk, moment, bits)? {
+        if !opens_again(alloc, case, disk, moment, bits)? {
             return Ok(false);
         }
     }

@@ -1,6 +1,6 @@
 -- A group keeps what a run owes, whatever becomes of it.
 use Rattle.std.proofs.Common.{◌≡◌, ◌⊎◌, inl, inr, ℕ, zero, suc, ◌≤◌, List, [], ◌∷◌, ◌++◌, map}
-use Rattle.std.proofs.Common.{length, filter, Option, Some, None, Bool, true, false, cond, refl, sym}
+use Rattle.std.proofs.Common.{length, filter, Option, Some, None, Bool, true, refl, sym}
 use Rattle.std.proofs.Common.{ap, subst, ◌∙◌, arith, IsTrue, IsSome, true≢false}
 use Rattle.std.specs.List.{AllByRecursion, flat_map}
 use Rattle.kv_base.specs.declared.cause.Cause.{Cause}

@@ -18,3 +18,5 @@ pub mod BeginLemmas
 pub mod KeyLemmas
 pub mod FullLemmas
 pub mod CauseLemmas
+pub mod ReportLemmas
+pub mod StatusLemmas

@@ -4,6 +4,7 @@ use Rattle.std.proofs.Common.{is_some, refl, sym, subst}
 use Rattle.std.proofs.lemmas.Bool.{false≢true}
 use Rattle.std.specs.Option.{option_map}
 use Rattle.std.specs.FinMap as finite
+use Rattle.kv_base.specs.declared.limits.Limits.{Limits}
 use Rattle.kv_base.proofs.ImageLemmas.{only_image}
 use Rattle.kv_disk.specs.declared.disk.Disk as disks
 use Rattle.kv_index.specs.declared.entry.Entry.{Entry}
@@ -17,7 +18,7 @@ use Rattle.kv_slab.specs.Given.{Answer}
 use Rattle.kv_slab.specs.View.{store_map}
 use Rattle.kv_worker.specs.Worker.{WorkerView, start_of, value_told}
 use Rattle.kv_serve.specs.Begins.{Begins}
-use Rattle.kv_serve.specs.Opening.{default_limits, Starts, Opens, HadItems}
+use Rattle.kv_serve.specs.Opening.{Starts, Opens, HadItems}
 use Rattle.kv_serve.proofs.OpeningLemmas.{recovers-kept, opening-recovers}
 
 same-itself : (told : Bool) (value : Option (List ℕ)) → SameValue told value value
@@ -41,8 +42,8 @@ same-value true answer entry value told some =
 same-value false answer entry value told some = some-value entry value some
 
 module _ {D I : Type 0} (d : disks.Ghosts D) (i : indexes.Ghosts I) (told : Told d) (disk : D)
-    (worker : WorkerView D I)
-    (opened : HasOpened d i disk 0 1 default_limits worker.store worker.highest) where
+    (limits : Limits) (worker : WorkerView D I)
+    (opened : HasOpened d i disk 0 1 limits worker.store worker.highest) where
   -- the store has what the items have that stood on the disk
   follows : FollowsHistory d.tells opened.kept.writes worker.highest (start_of d i worker.store)
   follows = record {
@@ -89,7 +90,7 @@ module _ {D I : Type 0} (d : disks.Ghosts D) (i : indexes.Ghosts I) (told : Told
   }
 
   -- a worker over a store that was opened starts with what stood on the disk
-  pub starts : Starts d i disk worker
+  pub starts : Starts d i disk limits worker
   starts = record {
     before = opened.kept.writes;
     floor = worker.highest;

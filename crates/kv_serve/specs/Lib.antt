@@ -6,4 +6,6 @@ pub mod Group
 pub mod Laws
 pub mod Outcome
 pub mod Run
-pub mod Words
+pub mod StatusLine
+pub mod Report
+pub mod Command

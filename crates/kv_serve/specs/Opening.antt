@@ -16,10 +16,6 @@ use Rattle.kv_recover.specs.declared.fault.OpenFault.TheVariants.{NoMemory}
 use Rattle.kv_worker.specs.Worker.{WorkerView}
 use Rattle.kv_serve.specs.Begins.{Begins}
 
--- the limits of a store where none are named: slots of each class, and pages that the cache keeps
-abbrev pub default_limits : Limits
-default_limits = record { slots = 2 ^ 20; cache = 256 }
-
 -- the disk was opened as that of worker 0 of 1, and nothing was served: at each moment a crash leaves
 -- an image that it could leave at the beginning, or one that keeps the store; what the disk reads as
 -- now keeps it, and is all that a crash leaves; and no fault was counted
@@ -46,10 +42,10 @@ abbrev pub LeavesAll : {D : Type 0} → disks.Ghosts D → D → D → List Writ
 LeavesAll d old new before = LeavesOnly (d.calls old) (d.calls new) (d.leaves old) (d.leaves new)
     (λ image. RecoversPrefix all_classes before before image 0 1)
 
--- the worker was made of the disk as it was taken, and begins with what stood on it; if nothing was
+-- the worker was made of the disk as it was taken, with these limits, and begins with what stood on it; if nothing was
 -- pending there, that was left at each moment of the opening
 pub record Starts {D I : Type 0} (d : disks.Ghosts D) (i : indexes.Ghosts I) (disk : D)
-    (worker : WorkerView D I) : Type 0 where
+    (limits : Limits) (worker : WorkerView D I) : Type 0 where
   pub before : List Write
   pub floor : ℕ
   pub had : HadItems d disk before floor
@@ -57,7 +53,7 @@ pub record Starts {D I : Type 0} (d : disks.Ghosts D) (i : indexes.Ghosts I) (di
   pub opens : Opens d disk worker.store.disk.disk
   pub settled : Only (d.seen disk) (d.leaves disk (d.calls disk))
       → LeavesAll d disk worker.store.disk.disk before
-  pub limits_are : worker.store.limits ≡ default_limits
+  pub limits_are : worker.store.limits ≡ limits
 
 -- the disk was refused, or memory ran out behind its opening
 abbrev pub IsNotStarted : {D : Type 0} → disks.Ghosts D → D → D → OpenFault → Type 0

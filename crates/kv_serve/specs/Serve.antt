@@ -7,6 +7,7 @@ use Rattle.kv_base.specs.declared.cause.Cause.TheVariants.{SinkFault}
 use Rattle.kv_base.specs.Calls.{next_count}
 use Rattle.kv_base.specs.Crash.{MayLeave, Only}
 use Rattle.kv_base.specs.Image.{Image}
+use Rattle.kv_base.specs.declared.limits.Limits.{Limits}
 use Rattle.kv_base.specs.declared.sink.Sink as sinks
 use Rattle.kv_base.specs.declared.source.Source as sources
 use Rattle.kv_disk.specs.declared.disk.Disk.{Ghosts}
@@ -27,7 +28,7 @@ use Rattle.kv_serve.specs.declared.ended.Refused.{Refused}
 use Rattle.kv_serve.specs.declared.ended.Refused.TheVariants.{Disk, TakeDisk, TakeSession}
 use Rattle.kv_serve.specs.declared.ended.Refused.TheVariants.{TakeReport}
 use Rattle.kv_serve.specs.declared.ended.Ended.{Ended}
-use Rattle.kv_serve.specs.Opening.{default_limits, Opens, HadItems}
+use Rattle.kv_serve.specs.Opening.{Opens, HadItems}
 
 -- the cause is End
 abbrev pub is_end : Cause → Bool
@@ -139,7 +140,7 @@ Refuses d o folder status (Some TakeReport) = ⊥
 -- writes that holds all earlier ones; the exit leaves one that holds all acknowledged ones too; and
 -- the status is that of the session's end
 pub record IsServed {In Out Pages : Type 0} (d : Ghosts Pages) (o : Outside In Out Pages)
-    (folder : List ℕ) (status : ℕ) (ending : Ending) : Type 0 where
+    (folder : List ℕ) (limits : Limits) (status : ℕ) (ending : Ending) : Type 0 where
   pub disk : Pages
   pub disk' : Pages
   pub ends : In × Out
@@ -151,7 +152,7 @@ pub record IsServed {In Out Pages : Type 0} (d : Ghosts Pages) (o : Outside In O
   pub sessions : IsTrue o.tells → ReturnsSession o.before o.after ends ends'
   pub had : HadItems d disk before floor
   pub session : HasSession o.streams ends.0 ends'.0 ends.1 ends'.1 ending groups
-  pub answers : HasAnswers d disk disk' default_limits.slots before floor groups
+  pub answers : HasAnswers d disk disk' limits.slots before floor groups
   pub settled : Only (d.seen disk) (d.leaves disk (d.calls disk))
       → Recovers d disk disk' before (pairs_in groups)
   pub exit : (image : Image) → MayLeave (d.leaves disk' (d.calls disk')) image
@@ -162,18 +163,18 @@ pub record IsServed {In Out Pages : Type 0} (d : Ghosts Pages) (o : Outside In O
 
 -- what the command did, by its endings: none where nothing was served, and then all sessions are
 -- held as before
-abbrev pub EndsWith : {In Out Pages : Type 0} → Ghosts Pages → Outside In Out Pages → List ℕ → ℕ
-    → Option Refused → List Ending → Type 0
-EndsWith d o folder status refused [] = (IsTrue o.tells → SessionsKept o.before o.after)
+abbrev pub EndsWith : {In Out Pages : Type 0} → Ghosts Pages → Outside In Out Pages → List ℕ → Limits
+    → ℕ → Option Refused → List Ending → Type 0
+EndsWith d o folder limits status refused [] = (IsTrue o.tells → SessionsKept o.before o.after)
     × Refuses d o folder status refused
-EndsWith d o folder status refused (ending ∷ []) = (refused ≡ None)
-    × IsServed d o folder status ending
-EndsWith d o folder status refused (ending ∷ other ∷ endings) = ⊥
+EndsWith d o folder limits status refused (ending ∷ []) = (refused ≡ None)
+    × IsServed d o folder limits status ending
+EndsWith d o folder limits status refused (ending ∷ other ∷ endings) = ⊥
 
 -- what the command `serve` did; the report's sink is held as before
 pub record IsDone {In Out Pages : Type 0} (d : Ghosts Pages) (o : Outside In Out Pages)
-    (folder : List ℕ) (ended : Ended) : Type 0 where
-  pub ends : EndsWith d o folder ended.status ended.refused ended.endings.items
+    (folder : List ℕ) (limits : Limits) (ended : Ended) : Type 0 where
+  pub ends : EndsWith d o folder limits ended.status ended.refused ended.endings.items
   pub report : IsTrue o.tells → o.after.report ≡ o.before.report
 
 -- how a command ends whose session the site refused

@@ -1,9 +1,28 @@
-ghost use Rattle.std.specs.Prelude.{◌≡◌, None};
+ghost use Rattle.std.specs.Prelude.{◌≡◌, [], None};
 ghost use Rattle.kv_serve.specs.Serve.{IsDiskRefusal, IsSessionRefusal};
 
 use crate::ended::{Ended, Endings, Refused};
+use kv_base::NoMemory;
 use kv_recover::OpenFault;
 use kv_site::TakeFault;
+use std::alloc::Global;
+
+/// The end of a command that served no session. Takes no memory.
+pub fn not_served(alloc: Global, status: u8, refused: Option<Refused>) -> Ended
+    ensures status { result.status ≡ status }
+    ensures endings { result.endings.items ≡ [] }
+    ensures refused { result.refused ≡ refused }
+{
+    let endings = match Endings::with_room(alloc, 0) {
+        Ok(endings) => endings,
+        Err(NoMemory) => unreachable!(),
+    };
+    Ended {
+        status,
+        endings,
+        refused,
+    }
+}
 
 /// The end of a command that ran out of memory before it served.
 pub fn run_out(endings: Endings) -> Ended

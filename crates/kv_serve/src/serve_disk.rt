@@ -1,4 +1,6 @@
 ghost use Rattle.std.specs.Prelude.{◌≡◌, ◌<◌, ℕ, List, [], IsTrue};
+ghost use Rattle.kv_base.specs.Limits.{AreLimits};
+ghost use Rattle.kv_base.specs.declared.limits.Limits.{Limits};
 ghost use Rattle.kv_session.specs.Session.{IsNew};
 ghost use Rattle.kv_site.specs.Held.{Held, TakesDisk, TakesSession};
 ghost use Rattle.kv_serve.specs.Opening.{Starts};
@@ -11,7 +13,7 @@ use crate::refuse::{refuse_disk, refuse_session, run_out};
 use crate::room::Room;
 use crate::serve::serve_one;
 use crate::status::status_of;
-use kv_base::{Sink, Source};
+use kv_base::{Limits, Sink, Source};
 use kv_disk::Disk;
 use kv_index::Index;
 use kv_session::Session;
@@ -20,24 +22,36 @@ use kv_tree::TreeIndex;
 use kv_worker::Worker;
 use std::alloc::Global;
 
+/// The names of a session's ends.
+#[derive(Clone, Copy)]
+pub struct Names<'a> {
+    /// Where requests come from.
+    pub input: &'a str,
+    /// Where replies go.
+    pub output: &'a str,
+}
+
 /// Serves a session over a disk that was taken from the site.
 pub fn serve_disk<S: Site>(
     alloc: Global,
     site: &mut S,
     disk: S::Pages,
+    limits: Limits,
+    names: Names<'_>,
     endings: Endings,
     room: Room,
 ) -> Ended
+    requires limits { AreLimits limits }
     requires endings { endings.items ≡ [] }
     requires spare { 0 < endings.spare }
     ensures { (before : Held S.In S.Out S.Pages) (folder : List ℕ) (n : ℕ)
         → (IsTrue S.tells → TakesDisk before (S.holds site.old) folder 0 disk)
         → n ≡ S.faults site.old
         → IsDone ⟦<S::Pages as Disk>⟧ (outside_of ⟦<S::In as Source>⟧ ⟦<S::Out as Sink>⟧ S.tells
-        before (S.holds site.new) n (S.faults site.new)) folder result }
+        before (S.holds site.new) n (S.faults site.new)) folder limits result }
 {
-    match open_worker(alloc, disk) {
-        Ok(worker) => serve_worker(alloc, site, worker, endings, room),
+    match open_worker(alloc, disk, limits) {
+        Ok(worker) => serve_worker(alloc, site, worker, names, endings, room),
         Err((disk, fault)) => {
             give_disk_back(site, disk);
             refuse_disk(fault, endings)
@@ -50,21 +64,23 @@ fn serve_worker<S: Site>(
     alloc: Global,
     site: &mut S,
     worker: Worker<S::Pages, TreeIndex>,
+    names: Names<'_>,
     endings: Endings,
     room: Room,
 ) -> Ended
     requires endings { endings.items ≡ [] }
     requires spare { 0 < endings.spare }
     requires started { (disk : S.Pages)
-        × Starts ⟦<S::Pages as Disk>⟧ ⟦<TreeIndex as Index>⟧ disk worker }
+        × (limits : Limits) × Starts ⟦<S::Pages as Disk>⟧ ⟦<TreeIndex as Index>⟧ disk limits worker }
     ensures { (before : Held S.In S.Out S.Pages) (folder : List ℕ) (n : ℕ) (disk : S.Pages)
+        (limits : Limits)
         → (IsTrue S.tells → TakesDisk before (S.holds site.old) folder 0 disk)
-        → Starts ⟦<S::Pages as Disk>⟧ ⟦<TreeIndex as Index>⟧ disk worker
+        → Starts ⟦<S::Pages as Disk>⟧ ⟦<TreeIndex as Index>⟧ disk limits worker
         → n ≡ S.faults site.old
         → IsDone ⟦<S::Pages as Disk>⟧ (outside_of ⟦<S::In as Source>⟧ ⟦<S::Out as Sink>⟧ S.tells
-        before (S.holds site.new) n (S.faults site.new)) folder result }
+        before (S.holds site.new) n (S.faults site.new)) folder limits result }
 {
-    match site.take_session(0, "-", "-") {
+    match site.take_session(0, names.input, names.output) {
         Ok((source, sink)) => serve_ends(alloc, site, worker, source, sink, endings, room),
         Err(fault) => {
             give_disk_back(site, worker.into_disk());
@@ -86,14 +102,15 @@ fn serve_ends<S: Site>(
     requires endings { endings.items ≡ [] }
     requires spare { 0 < endings.spare }
     requires started { (disk : S.Pages)
-        × Starts ⟦<S::Pages as Disk>⟧ ⟦<TreeIndex as Index>⟧ disk worker }
+        × (limits : Limits) × Starts ⟦<S::Pages as Disk>⟧ ⟦<TreeIndex as Index>⟧ disk limits worker }
     ensures { (before between : Held S.In S.Out S.Pages) (folder : List ℕ) (n : ℕ) (disk : S.Pages)
+        (limits : Limits)
         → (IsTrue S.tells → TakesDisk before between folder 0 disk)
         → (IsTrue S.tells → TakesSession between (S.holds site.old) 0 (source, sink))
-        → Starts ⟦<S::Pages as Disk>⟧ ⟦<TreeIndex as Index>⟧ disk worker
+        → Starts ⟦<S::Pages as Disk>⟧ ⟦<TreeIndex as Index>⟧ disk limits worker
         → n ≡ S.faults site.old
         → IsDone ⟦<S::Pages as Disk>⟧ (outside_of ⟦<S::In as Source>⟧ ⟦<S::Out as Sink>⟧ S.tells
-        before (S.holds site.new) n (S.faults site.new)) folder result }
+        before (S.holds site.new) n (S.faults site.new)) folder limits result }
 {
     match Session::new(alloc, source, sink) {
         Ok(session) => serve_session(alloc, site, worker, session, endings, room),
@@ -117,14 +134,15 @@ fn serve_session<S: Site>(
     requires spare { 0 < endings.spare }
     requires new { IsNew session }
     requires started { (disk : S.Pages)
-        × Starts ⟦<S::Pages as Disk>⟧ ⟦<TreeIndex as Index>⟧ disk worker }
+        × (limits : Limits) × Starts ⟦<S::Pages as Disk>⟧ ⟦<TreeIndex as Index>⟧ disk limits worker }
     ensures { (before between : Held S.In S.Out S.Pages) (folder : List ℕ) (n : ℕ) (disk : S.Pages)
+        (limits : Limits)
         → (IsTrue S.tells → TakesDisk before between folder 0 disk)
         → (IsTrue S.tells → TakesSession between (S.holds site.old) 0 (session.source, session.sink))
-        → Starts ⟦<S::Pages as Disk>⟧ ⟦<TreeIndex as Index>⟧ disk worker
+        → Starts ⟦<S::Pages as Disk>⟧ ⟦<TreeIndex as Index>⟧ disk limits worker
         → n ≡ S.faults site.old
         → IsDone ⟦<S::Pages as Disk>⟧ (outside_of ⟦<S::In as Source>⟧ ⟦<S::Out as Sink>⟧ S.tells
-        before (S.holds site.new) n (S.faults site.new)) folder result }
+        before (S.holds site.new) n (S.faults site.new)) folder limits result }
 {
     let served = serve_one(alloc, worker, session, room);
     let status = status_of(served.ending.cause, served.unsure);

@@ -37,6 +37,31 @@ fn command(alloc: Global, words: &[String], site: &mut MemSite) -> Ended {
     run_words(alloc, words, site)
 }
 
+/// Carries out a command over a site with the disk in D and a sink for a report, which fails at the
+/// listed calls.
+pub fn report(alloc: Global, words: &[&str], disk: MemDisk, fails: &[u32]) -> Result<Left, Fail> {
+    let words = words_of(alloc, words)?;
+    let mut site = MemSite::new(alloc, Calls::none());
+    site.put_disk("D", 0, disk)?;
+    site.put_report(MemSink::new(alloc, 20_000, Calls::of(alloc, fails)?)?);
+    let ended = command(alloc, &words, &mut site);
+    let output = Vec::from_slice(alloc, report_of(&site))?;
+    left_with(ended, output, site)
+}
+
+fn report_of(site: &MemSite) -> &[u8] {
+    match site.report() {
+        Some(sink) => sink.taken(),
+        None => &[],
+    }
+}
+
+/// Carries out a command over the site.
+pub fn command_over(alloc: Global, words: &[&str], site: &mut MemSite) -> Result<Ended, Fail> {
+    let words = words_of(alloc, words)?;
+    Ok(command(alloc, &words, site))
+}
+
 fn words_of(alloc: Global, words: &[&str]) -> Result<Vec<String>, Fail> {
     let mut all = Vec::new(alloc);
     for word in words {
@@ -54,8 +79,12 @@ fn site_over(alloc: Global, disk: MemDisk, input: &[u8], fails: &[u32]) -> Resul
     Ok(site)
 }
 
-fn left_by(alloc: Global, ended: Ended, mut site: MemSite) -> Result<Left, Fail> {
+fn left_by(alloc: Global, ended: Ended, site: MemSite) -> Result<Left, Fail> {
     let output = Vec::from_slice(alloc, output_of(&site))?;
+    left_with(ended, output, site)
+}
+
+fn left_with(ended: Ended, output: Vec<u8>, mut site: MemSite) -> Result<Left, Fail> {
     match disk_of(&mut site) {
         Some(disk) => Ok(Left {
             ended,

@@ -1,41 +1,66 @@
-ghost use Rattle.std.specs.Prelude.{◌≡◌, ℕ, List, [], map, string_bytes, None};
+ghost use Rattle.std.specs.Prelude.{◌≡◌, ℕ, ◌⊎◌, List, [], map, string_bytes, None};
+ghost use Rattle.kv_base.specs.Limits.{AreLimits};
 ghost use Rattle.kv_serve.specs.Serve.{IsDone, outside_of};
-ghost use Rattle.kv_serve.specs.Words.{IsServe};
+ghost use Rattle.kv_serve.specs.Command.{Does};
+ghost use Rattle.kv_words.specs.Words.{Asked, Asks};
 
 use crate::ended::{Ended, Endings, Refused};
+use crate::refuse::not_served;
+use crate::report::{ReportKind, report};
 use crate::room::Room;
-use crate::serve_disk::serve_disk;
-use crate::words::served_folder;
-use kv_base::{NoMemory, Sink, Source};
+use crate::serve_disk::{Names, serve_disk};
+use kv_base::{Limits, Sink, Source};
 use kv_disk::Disk;
 use kv_site::{Site, TakeFault};
+use kv_words::{Command, WordsFault, read_words};
 use std::alloc::Global;
 
-/// Carries out a command, whose words don't include the program's name: `serve DIR 1 - -`. It opens
-/// the store of worker 0 of 1 in the folder, with at most 2^20 slots of each class and a cache of 256
-/// pages, and serves one session. All that it takes from the site it gives back.
+/// Carries out a command, whose words don't include the program's name: `serve` over one worker,
+/// `check` or `dump`. All that it takes from the site it gives back.
 ///
-/// Statuses and refusals are those of docs/protocol.md, "Endings and statuses".
+/// Words, statuses and refusals are those of docs/protocol.md, "Words" and "Endings and statuses".
 pub fn run_words<S: Site>(alloc: Global, words: &[String], site: &mut S) -> Ended
-    ensures usage { ((folder : List ℕ) → IsServe (map (λ word. string_bytes word) words.now) folder → ⊥)
-        → (result.status ≡ 2) × (result.endings.items ≡ []) × (result.refused ≡ None)
-        × (site.new ≡ site.old) }
-    ensures done { (folder : List ℕ) → IsServe (map (λ word. string_bytes word) words.now) folder
-        → IsDone ⟦<S::Pages as Disk>⟧ (outside_of ⟦<S::In as Source>⟧ ⟦<S::Out as Sink>⟧ S.tells
-        (S.holds site.old) (S.holds site.new) (S.faults site.old) (S.faults site.new)) folder
-        result }
+    ensures usage { ((asked : Asked) → Asks (map (λ word. string_bytes word) words.now) asked → ⊥)
+        → ((result.status ≡ 2) ⊎ (result.status ≡ 4)) × (result.endings.items ≡ [])
+        × (result.refused ≡ None) × (site.new ≡ site.old) }
+    ensures done { (asked : Asked) → Asks (map (λ word. string_bytes word) words.now) asked
+        → Does ⟦<S::Pages as Disk>⟧ (outside_of ⟦<S::In as Source>⟧ ⟦<S::Out as Sink>⟧ S.tells
+        (S.holds site.old) (S.holds site.new) (S.faults site.old) (S.faults site.new)) asked result }
+    ensures only { result.status ≡ 2
+        → (asked : Asked) → Asks (map (λ word. string_bytes word) words.now) asked → ⊥ }
 {
-    match served_folder(words) {
-        Some(folder) => serve(alloc, folder, site),
-        None => not_served(alloc, 2, None),
+    match read_words(alloc, words) {
+        Ok(
+            Command::Serve {
+                folder,
+                limits,
+                input,
+                output,
+            },
+        ) => serve(alloc, folder, limits, Names { input, output }, site),
+        Ok(Command::Check { folder, workers }) => {
+            report(alloc, ReportKind::Check, folder, workers, site)
+        }
+        Ok(Command::Dump { folder, workers }) => {
+            report(alloc, ReportKind::Dump, folder, workers, site)
+        }
+        Err(WordsFault::Usage) => not_served(alloc, 2, None),
+        Err(WordsFault::NoMemory) => not_served(alloc, 4, None),
     }
 }
 
 /// Serves a session over the disk of worker 0 in the folder.
-fn serve<S: Site>(alloc: Global, folder: &str, site: &mut S) -> Ended
+fn serve<S: Site>(
+    alloc: Global,
+    folder: &str,
+    limits: Limits,
+    names: Names<'_>,
+    site: &mut S,
+) -> Ended
+    requires limits { AreLimits limits }
     ensures { IsDone ⟦<S::Pages as Disk>⟧ (outside_of ⟦<S::In as Source>⟧ ⟦<S::Out as Sink>⟧ S.tells
         (S.holds site.old) (S.holds site.new) (S.faults site.old) (S.faults site.new)) folder.now
-        result }
+        limits result }
 {
     let Ok(endings) = Endings::with_room(alloc, 1) else {
         return not_served(alloc, 4, None);
@@ -44,25 +69,8 @@ fn serve<S: Site>(alloc: Global, folder: &str, site: &mut S) -> Ended
         return not_served(alloc, 4, None);
     };
     match site.take_disk(folder, 0) {
-        Ok(disk) => serve_disk(alloc, site, disk, endings, room),
+        Ok(disk) => serve_disk(alloc, site, disk, limits, names, endings, room),
         Err(TakeFault::Failed) => not_served(alloc, 3, Some(Refused::TakeDisk { worker: 0 })),
         Err(TakeFault::NoMemory) => not_served(alloc, 4, None),
-    }
-}
-
-/// The end of a command that served no session. Takes no memory.
-fn not_served(alloc: Global, status: u8, refused: Option<Refused>) -> Ended
-    ensures status { result.status ≡ status }
-    ensures endings { result.endings.items ≡ [] }
-    ensures refused { result.refused ≡ refused }
-{
-    let endings = match Endings::with_room(alloc, 0) {
-        Ok(endings) => endings,
-        Err(NoMemory) => unreachable!(),
-    };
-    Ended {
-        status,
-        endings,
-        refused,
     }
 }

@@ -1,16 +1,14 @@
-//! The program: `kvell serve DIR 1 - -` answers puts and gets from standard input to standard
-//! output.
+//! The program: `kvell serve DIR 1 IN OUT` answers puts, gets and deletes; `kvell check DIR N` and
+//! `kvell dump DIR N` report what stands on a store's disks.
 #![tactic(auto)]
 
-use kv_serve::run_words;
+use kv_serve::{run_words, status_line};
 use kv_site::FileSite;
 use std::alloc::Global;
+use std::io::Write;
 use std::process::ExitCode;
 use std::rt::Env;
 use std::{env, io};
-
-/// The status where the words are none of a command.
-const USAGE: u8 = 2;
 
 /// The status where memory ran out.
 const OUT_OF_MEMORY: u8 = 4;
@@ -19,15 +17,20 @@ fn main(rt: HostRuntime) -> ExitCode {
     let alloc = rt.alloc();
     let words = match words_of(alloc, &rt) {
         Ok(words) => words,
-        Err(error) => {
-            return ExitCode::from(match error.kind() {
-                io::ErrorKind::OutOfMemory => OUT_OF_MEMORY,
-                _ => USAGE,
-            });
+        Err(error) if error.kind() == io::ErrorKind::OutOfMemory => {
+            return ExitCode::from(OUT_OF_MEMORY);
         }
+        // A word isn't UTF-8: no words are none of a command, either.
+        Err(_) => Vec::new(alloc),
     };
+    let mut stderr = rt.stderr();
     let mut site = FileSite::new(rt);
-    ExitCode::from(run_words(alloc, &words, &mut site).status)
+    let ended = run_words(alloc, &words, &mut site);
+    if let Ok(Some(line)) = status_line(alloc, &ended) {
+        let _ = stderr.write_all(line.as_slice());
+        let _ = stderr.write_all(b"\n");
+    }
+    ExitCode::from(ended.status)
 }
 
 /// The words behind the program's name.

@@ -5,7 +5,7 @@ use Rattle.kv_serve.proofs.serve_disk.serve_disk.Goals as goal
 
 pub returns-in-Ok : goal.returns-in-Ok
 returns-in-Ok g c before folder n taken risen =
-    c.serve_worker.ensures before folder n c.args.disk taken c.in-Ok.ensures.ok risen
+    c.serve_worker.ensures before folder n c.args.disk c.args.limits taken c.in-Ok.ensures.ok risen
 
 pub returns-in-Err : goal.returns-in-Err
 returns-in-Err g c before folder n taken risen =

@@ -4,12 +4,12 @@ use Rattle.kv_serve.proofs.ServeLemmas.{sessions-kept, pair_is}
 use Rattle.kv_serve.proofs.serve_disk.serve_ends.Goals as goal
 
 pub returns-in-Ok : goal.returns-in-Ok
-returns-in-Ok g c before between folder n disk taken session_taken starts risen =
-    c.serve_session.ensures before between folder n disk taken
+returns-in-Ok g c before between folder n disk limits taken session_taken starts risen =
+    c.serve_session.ensures before between folder n disk limits taken
     (λ t. rw (c.in-Ok.ensures.ok.1, c.in-Ok.ensures.ok.2) (session_taken t)) starts risen
 
 pub returns-in-Err : goal.returns-in-Err
-returns-in-Err g c before between folder n disk taken session_taken starts risen =
+returns-in-Err g c before between folder n disk limits taken session_taken starts risen =
     let back = λ (t : IsTrue g.S.Site.tells). c.give_both_back.ensures.back before between folder
     disk (c.args.source, c.args.sink) t (taken t) (session_taken t) in
     let same : (c.in-Err.source, c.in-Err.sink) ≡ (c.args.source, c.args.sink) =

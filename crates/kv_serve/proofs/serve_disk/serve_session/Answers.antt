@@ -9,10 +9,10 @@ use Rattle.kv_serve.proofs.serve_disk.serve_session.Goals as goal
 
 pub serve_one-served-requires-clause-begins : goal.serve_one-served-requires-clause-begins
 serve_one-served-requires-clause-begins g c =
-    let starts = c.requires.started.1 in (starts.before, starts.floor, starts.begins)
+    let starts = c.requires.started.2 in (starts.before, starts.floor, starts.begins)
 
 pub returns : goal.returns
-returns g c before between folder n disk taken session_taken starts risen =
+returns g c before between folder n disk limits taken session_taken starts risen =
     let served = c.serve_one-served.result in
     let did = c.serve_one-served.ensures.serves starts.before starts.floor starts.begins in
     let back = λ (t : IsTrue g.S.Site.tells). c.give_both_back.ensures.back before between folder
@@ -37,8 +37,8 @@ returns g c before between folder n disk taken session_taken starts risen =
           session = did.1;
           answers = answers-from g.S.Pages.Disk disk c.args.worker.store.disk.disk served.disk _
               starts.before starts.floor did.0 starts.opens.calm
-              (subst (λ limits. HasAnswers g.S.Pages.Disk c.args.worker.store.disk.disk
-              served.disk limits.slots starts.before starts.floor did.0) starts.limits_are did.2);
+              (subst (λ own. HasAnswers g.S.Pages.Disk c.args.worker.store.disk.disk
+              served.disk own.slots starts.before starts.floor did.0) starts.limits_are did.2);
           settled = λ only. recovers-all g.S.Pages.Disk disk c.args.worker.store.disk.disk
               starts.before starts.floor starts.had served.disk (pairs_in did.0) did.2.agrees
               (starts.settled only) did.3;

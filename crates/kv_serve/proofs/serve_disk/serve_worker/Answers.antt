@@ -5,12 +5,12 @@ use Rattle.kv_serve.proofs.ServeLemmas.{refuses-session}
 use Rattle.kv_serve.proofs.serve_disk.serve_worker.Goals as goal
 
 pub returns-in-Ok : goal.returns-in-Ok
-returns-in-Ok g c before folder n disk taken starts risen =
-    c.serve_ends.ensures before (g.S.Site.holds c.args.site.now) folder n disk taken
+returns-in-Ok g c before folder n disk limits taken starts risen =
+    c.serve_ends.ensures before (g.S.Site.holds c.args.site.now) folder n disk limits taken
     (λ t. c.in-Ok.ensures.taken t) starts (risen ∙ sym c.in-Ok.ensures.counted)
 
 pub returns-in-Err : goal.returns-in-Err
-returns-in-Err g c before folder n disk taken starts risen =
+returns-in-Err g c before folder n disk limits taken starts risen =
     let back = λ (t : IsTrue g.S.Site.tells). c.give_disk_back.ensures.back before folder disk t
     (rw (c.in-Err.ensures.kept t) (taken t)) in
     record {

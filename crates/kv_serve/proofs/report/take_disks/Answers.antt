@@ -1,0 +1,1 @@
+-- One disk more is taken, or the site refuses it.

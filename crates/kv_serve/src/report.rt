@@ -1,0 +1,199 @@
+ghost use Rattle.std.specs.Prelude.{◌≡◌, ◌<◌, ◌≤◌, ℕ, List, [], length, IsTrue, OnOk, IfErr};
+ghost use Rattle.kv_site.specs.Held.{Held, TakesReport};
+ghost use Rattle.kv_serve.specs.Report.{AreHome, CountsTakes, GivesDisks, IsReported, IsReportEnd};
+ghost use Rattle.kv_serve.specs.Report.{IsTakeRefusal, Makes, ReturnsAll, TookDisks};
+ghost use Rattle.kv_serve.specs.Serve.{outside_of};
+
+use crate::ended::{Ended, Refused};
+use crate::refuse::not_served;
+use kv_base::{ReservedList, Sink, Source};
+use kv_disk::Disk;
+use kv_recover::OpenFault;
+use kv_site::{Site, TakeFault};
+use kv_tools::{ToolFault, check_all, dump_all};
+use std::alloc::Global;
+
+/// A report of a store's disks.
+#[derive(Clone, Copy)]
+pub enum ReportKind {
+    /// How many of their slots are of which kind.
+    Check,
+    /// All items that they keep.
+    Dump,
+}
+
+/// The disks of a store, worker by worker.
+type Disks<D> = ReservedList<D>;
+
+/// Makes the report over the disks.
+fn make_report<D: Disk, Si: Sink>(
+    alloc: Global,
+    kind: ReportKind,
+    disks: &mut [D],
+    out: &mut Si,
+) -> Result<(), ToolFault>
+    requires some { 1 ≤ length disks.old }
+    requires limit { length disks.old ≤ 16 }
+    ensures { Makes ⟦<D as Disk>⟧ Si.held Si.faults kind disks.old disks.new out.old out.new result }
+{
+    match kind {
+        ReportKind::Check => check_all(alloc, disks, out),
+        ReportKind::Dump => dump_all(alloc, disks, out),
+    }
+}
+
+/// The end of a command by what came of its report.
+fn reported(alloc: Global, outcome: Result<(), ToolFault>) -> Ended
+    ensures endings { result.endings.items ≡ [] }
+    ensures ends { IsReportEnd outcome result.status result.refused }
+{
+    match outcome {
+        Ok(()) => not_served(alloc, 0, None),
+        Err(ToolFault::Store { worker, fault }) => {
+            not_served(alloc, 3, Some(Refused::Disk { worker, fault }))
+        }
+        Err(ToolFault::DiskFault { worker }) => {
+            let fault = OpenFault::DiskFault;
+            not_served(alloc, 3, Some(Refused::Disk { worker, fault }))
+        }
+        Err(ToolFault::SinkFault) => not_served(alloc, 1, None),
+        Err(ToolFault::NoMemory) => not_served(alloc, 4, None),
+    }
+}
+
+/// The end of a command that the site refused something.
+fn refused_by(alloc: Global, fault: TakeFault, refused: Refused) -> Ended
+    ensures endings { result.endings.items ≡ [] }
+    ensures cause { IsTakeRefusal fault refused result.status result.refused }
+{
+    match fault {
+        TakeFault::Failed => not_served(alloc, 3, Some(refused)),
+        TakeFault::NoMemory => not_served(alloc, 4, None),
+    }
+}
+
+/// Takes the disks of so many workers in the folder. Where the site refuses one it answers whose, and
+/// those before it are in the list.
+fn take_disks<S: Site>(
+    site: &mut S,
+    folder: &str,
+    workers: u32,
+    disks: &mut Disks<S::Pages>,
+) -> Result<(), (u32, TakeFault)>
+    requires empty { disks.old.items ≡ [] }
+    requires room { workers ≤ disks.old.spare }
+    ensures took { IsTrue S.tells → TookDisks (S.holds site.old) (S.holds site.new) folder.now
+        disks.new.items }
+    ensures ok { OnOk result (length disks.new.items ≡ workers) }
+    ensures within { length disks.new.items ≤ workers }
+    ensures err { IfErr result (λ refused. refused.0 < workers) }
+    ensures counted { CountsTakes (S.faults site.old) (S.faults site.new) result }
+{
+    for worker in 0..workers {
+        match site.take_disk(folder, worker) {
+            Ok(disk) => disks.append(disk).unwrap(),
+            Err(fault) => return Err((worker, fault)),
+        }
+    }
+    Ok(())
+}
+
+/// Gives the disks back, the last one first.
+fn give_disks<S: Site>(site: &mut S, mut disks: Disks<S::Pages>)
+    requires { length disks.items ≤ 16 }
+    ensures given { IsTrue S.tells → (folder : List ℕ)
+        → AreHome (S.holds site.old) folder (length disks.items)
+        → GivesDisks (S.holds site.old) (S.holds site.new) folder disks.items }
+    ensures still { S.faults site.new ≡ S.faults site.old }
+{
+    while let Some(disk) = disks.take_last() {
+        site.give_disk(disks.as_slice().len() as u32, disk);
+    }
+}
+
+/// Gives back the disks and the sink of the report.
+fn give_all<S: Site>(site: &mut S, disks: Disks<S::Pages>, out: S::Out)
+    requires { length disks.items ≤ 16 }
+    ensures given { (before between : Held S.In S.Out S.Pages) (folder : List ℕ)
+        (olds : List S.Pages) (old : S.Out) → IsTrue S.tells → TakesReport before between old
+        → TookDisks between (S.holds site.old) folder olds → length disks.items ≡ length olds
+        → ReturnsAll before (S.holds site.new) folder olds disks.items old out }
+    ensures still { S.faults site.new ≡ S.faults site.old }
+{
+    give_disks(site, disks);
+    site.give_report(out);
+}
+
+/// Makes the report over disks and a sink that were taken from the site.
+fn report_taken<S: Site>(
+    alloc: Global,
+    site: &mut S,
+    mut out: S::Out,
+    kind: ReportKind,
+    mut disks: Disks<S::Pages>,
+) -> Ended
+    requires some { 1 ≤ length disks.items }
+    requires limit { length disks.items ≤ 16 }
+    ensures { (before between : Held S.In S.Out S.Pages) (folder : List ℕ) (n : ℕ)
+        → (IsTrue S.tells → TakesReport before between out)
+        → (IsTrue S.tells → TookDisks between (S.holds site.old) folder disks.items)
+        → n ≡ S.faults site.old
+        → IsReported ⟦<S::Pages as Disk>⟧ (outside_of ⟦<S::In as Source>⟧ ⟦<S::Out as Sink>⟧ S.tells
+        before (S.holds site.new) n (S.faults site.new)) kind folder (length disks.items) result }
+{
+    let outcome = make_report(alloc, kind, disks.as_mut_slice(), &mut out);
+    give_all(site, disks, out);
+    reported(alloc, outcome)
+}
+
+/// Takes the disks and makes the report to a sink that was taken from the site.
+fn report_to<S: Site>(
+    alloc: Global,
+    site: &mut S,
+    out: S::Out,
+    kind: ReportKind,
+    folder: &str,
+    workers: u32,
+    mut disks: Disks<S::Pages>,
+) -> Ended
+    requires some { 1 ≤ workers }
+    requires limit { workers ≤ 16 }
+    requires empty { disks.items ≡ [] }
+    requires room { workers ≤ disks.spare }
+    ensures { (before : Held S.In S.Out S.Pages) (n : ℕ)
+        → (IsTrue S.tells → TakesReport before (S.holds site.old) out)
+        → n ≡ S.faults site.old
+        → IsReported ⟦<S::Pages as Disk>⟧ (outside_of ⟦<S::In as Source>⟧ ⟦<S::Out as Sink>⟧ S.tells
+        before (S.holds site.new) n (S.faults site.new)) kind folder.now workers result }
+{
+    match take_disks(site, folder, workers, &mut disks) {
+        Ok(()) => report_taken(alloc, site, out, kind, disks),
+        Err((worker, fault)) => {
+            give_all(site, disks, out);
+            refused_by(alloc, fault, Refused::TakeDisk { worker })
+        }
+    }
+}
+
+/// Makes a report over the disks of so many workers in the folder, and gives back all that it takes.
+pub fn report<S: Site>(
+    alloc: Global,
+    kind: ReportKind,
+    folder: &str,
+    workers: u32,
+    site: &mut S,
+) -> Ended
+    requires some { 1 ≤ workers }
+    requires limit { workers ≤ 16 }
+    ensures { IsReported ⟦<S::Pages as Disk>⟧ (outside_of ⟦<S::In as Source>⟧ ⟦<S::Out as Sink>⟧
+        S.tells (S.holds site.old) (S.holds site.new) (S.faults site.old) (S.faults site.new)) kind
+        folder.now workers result }
+{
+    let Ok(disks) = Disks::with_room(alloc, workers as usize) else {
+        return not_served(alloc, 4, None);
+    };
+    match site.take_report() {
+        Ok(out) => report_to(alloc, site, out, kind, folder, workers, disks),
+        Err(fault) => refused_by(alloc, fault, Refused::TakeReport),
+    }
+}

@@ -1,0 +1,5 @@
+pub mod WordsLemmas
+pub mod AskLemmas
+pub mod ClapState
+pub mod ClapTurns
+pub mod ClapLemmas

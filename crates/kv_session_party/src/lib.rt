@@ -9,6 +9,8 @@ mod party;
 mod reply;
 mod routes;
 mod send;
+#[cfg(test)]
+mod tests;
 mod turn;
 
 pub use party::{PartyParts, SessionParty};

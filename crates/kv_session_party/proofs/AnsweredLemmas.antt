@@ -102,10 +102,10 @@ pub answered-all : (n : ℕ) (tasks : List Task) (places : List Place) (parts : 
 answered-all n tasks places parts coming size are here come =
     let known = known-all n tasks places are in
     let each : (worker : ℕ) → worker < n → Comes (part_for n worker tasks) (part_of parts worker) =
-        λ worker lt. come-here (part_for n worker tasks) (coming worker) (part_of parts worker)
-        (here worker) (come worker lt) in
+    λ worker lt. come-here (part_for n worker tasks) (coming worker) (part_of parts worker)
+    (here worker) (come worker lt) in
     let past : (worker : ℕ) → n ≤ worker → part_of parts worker ≡ no_part = λ worker le.
-        get_or_past parts worker no_part (omega (arith, size, le)) in
+    get_or_past parts worker no_part (omega (arith, size, le)) in
     record {
       here = here;
       known = subst (λ m. AllByRecursion (IsKnown m) places) (sym size) known;

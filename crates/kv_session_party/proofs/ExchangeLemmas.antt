@@ -81,12 +81,12 @@ module _ {F : Type 0} (seen : ℕ) (links : Links F) (routes : RoutesState) wher
       → AsksUpTo now later worker → AsksUpTo next after (worker + 1)
   AsksUpTo-more now next later after worker lt one u =
       let was : part_of later.parts worker ≡ part_of routes.parts worker =
-          u.others worker (omega arith) in
+      u.others worker (omega arith) in
       let out : Part = part_out (part_of later.parts worker) in
       let there : (other : ℕ) → other ≢ worker
-          → part_of after.parts other ≡ part_of later.parts other = λ other ne.
-          ap (λ (ps : List Part). part_of ps other) one.parts
-          ∙ get_or-set_other later.parts worker other out no_part ne in
+      → part_of after.parts other ≡ part_of later.parts other = λ other ne.
+      ap (λ (ps : List Part). part_of ps other) one.parts
+      ∙ get_or-set_other later.parts worker other out no_part ne in
       record {
         told = by-last (λ w. told_to next w
             ≡ told_to links w ++ message_for seen (tasks_out (part_of routes.parts w))) worker
@@ -124,11 +124,11 @@ module _ {F : Type 0} (seen : ℕ) (links : Links F) (routes : RoutesState) wher
       → Asks seen links now routes later
   AsksUpTo-all now later worker all u =
       let pick : (P : ℕ → Type 0) → ((other : ℕ) → other < worker → P other)
-          → ((other : ℕ) → worker ≤ other → P other) → (other : ℕ) → P other =
-          λ P low high other. ⊎_elim (λ (lt : other < worker). low other lt)
-          (λ (le : worker ≤ other). high other le) (before_or_not other worker) in
+      → ((other : ℕ) → worker ≤ other → P other) → (other : ℕ) → P other =
+      λ P low high other. ⊎_elim (λ (lt : other < worker). low other lt)
+      (λ (le : worker ≤ other). high other le) (before_or_not other worker) in
       let past : (other : ℕ) → worker ≤ other → part_of routes.parts other ≡ no_part =
-          λ other le. past-parts other (omega (arith, all, le)) in
+      λ other le. past-parts other (omega (arith, all, le)) in
       record {
         told = pick (λ w. told_to now w
             ≡ told_to links w ++ message_for seen (tasks_out (part_of routes.parts w))) u.told
@@ -251,9 +251,9 @@ module _ {F : Type 0} (links : Links F) (routes : RoutesState) where
   ReceivesUpTo-more now next later after worker moved found one u =
       let came : ℕ → Option (Answer F) = λ w. cond (nat_eq worker w) one.came (u.came w) in
       let here : came worker ≡ one.came =
-          ap (λ b. cond b one.came (u.came worker)) (eq_self worker) in
+      ap (λ b. cond b one.came (u.came worker)) (eq_self worker) in
       let there : (other : ℕ) → other ≢ worker → came other ≡ u.came other = λ other ne.
-          ap (λ b. cond b one.came (u.came other)) (eq_not worker other (λ e. ne (sym e))) in
+      ap (λ b. cond b one.came (u.came other)) (eq_not worker other (λ e. ne (sym e))) in
       let stays : StaysAt now later worker = u.others worker (omega arith) in
       record {
         came = came;
@@ -282,11 +282,15 @@ module _ {F : Type 0} (links : Links F) (routes : RoutesState) where
             (same_or_not other worker);
         some = λ e. ⊎_elim
             (λ (before : moved ≡ true).
-            let found-before = u.some before in (found-before.0,
-            subst IsSome (sym (there found-before.0 (λ e. none-some (u.came found-before.0)
-            (u.none found-before.0 (omega (arith, e))) found-before.1))) found-before.1))
-            (λ (now-found : found ≡ true). (worker,
-            subst IsSome (sym here) (some-of one.came (sym one.moved_is ∙ now-found))))
+            let found-before = u.some before in (
+              found-before.0,
+              subst IsSome (sym (there found-before.0 (λ e. none-some (u.came found-before.0)
+                  (u.none found-before.0 (omega (arith, e))) found-before.1))) found-before.1,
+            ))
+            (λ (now-found : found ≡ true). (
+              worker,
+              subst IsSome (sym here) (some-of one.came (sym one.moved_is ∙ now-found)),
+            ))
             (or-yes moved found e);
         rings = rings-trans links.ends now.ends next.ends u.rings one.rings;
       }

@@ -170,9 +170,9 @@ module _ {F : Type 0} (links : Links F) where
   ByesUpTo-more now next worker told others heard rings u =
       let bye : List (Ask F) = ask.Bye ∷ [] in
       let there : (other : ℕ) → other ≢ worker → told_to next other ≡ told_to now other =
-          λ other ne. told other
-          ∙ ap (λ b. told_to now other ++ cond b bye []) (eq_not other worker ne)
-          ∙ append-nil (told_to now other) in
+      λ other ne. told other
+      ∙ ap (λ b. told_to now other ++ cond b bye []) (eq_not other worker ne)
+      ∙ append-nil (told_to now other) in
       record {
         told = by-last (λ w. told_to next w ≡ told_to links w ++ bye) worker
             (told worker ∙ ap (λ b. told_to now worker ++ cond b bye []) (eq_self worker)

@@ -209,7 +209,7 @@ module _ (left rest : List Place) (parts : List Part) (number : ℕ) (part : Par
         ∙ at-yes number rest (Worker number) (eq_self number) in
         let before = a.many number ∙ ap length was ∙ length-append items (last ∷ []) in
         let after : tasks_here (part_of now number) ≡ items =
-            ap tasks_here now-here ∙ has-here part items has in
+        ap tasks_here now-here ∙ has-here part items has in
         let size = ap length after in
         omega (arith, count, before, size))
         (λ other ne. sym (at-no other rest (Worker number)
@@ -230,10 +230,10 @@ module _ (left rest : List Place) (parts : List Part) (number : ℕ) (part : Par
   Merges-worker first before tasks reply replied m =
       let taken : ℕ → List Task = λ w. cond (nat_eq number w) (last ∷ m.taken w) (m.taken w) in
       let yes : taken number ≡ last ∷ m.taken number =
-          ap (λ b. cond b (last ∷ m.taken number) (m.taken number)) (eq_self number) in
+      ap (λ b. cond b (last ∷ m.taken number) (m.taken number)) (eq_self number) in
       let no : (other : ℕ) → other ≢ number → taken other ≡ m.taken other = λ other ne.
-          ap (λ b. cond b (last ∷ m.taken other) (m.taken other))
-          (eq_not number other (λ e. ne (sym e))) in
+      ap (λ b. cond b (last ∷ m.taken other) (m.taken other))
+      (eq_not number other (λ e. ne (sym e))) in
       record {
         done = Worker number ∷ m.done;
         backward = m.backward ++ reply ∷ [];

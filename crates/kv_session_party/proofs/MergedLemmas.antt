@@ -102,7 +102,7 @@ part-replies n worker (q ∷ asked) (t ∷ tasks) (p ∷ places) (r ∷ merged) 
     let rest : List Handled = filter (pair_goes_to n worker) (handled_by asked tasks merged) in
     let more = part-replies n worker asked tasks places merged taken.1 are.1 own.1 in
     let same : pair_goes_to n worker h ≡ is_at worker p =
-        pair-goes n worker q t r taken.0 ∙ sym (place-goes n worker t p are.0) in
+    pair-goes n worker q t r taken.0 ∙ sym (place-goes n worker t p are.0) in
     ap (λ b. replies (map (λ (x : Handled). x.pair) (cond b (h ∷ rest) rest))) same
     ∙ (elim (is_at worker p) as (λ b.
     replies (map (λ (x : Handled). x.pair) (cond b (h ∷ rest) rest))
@@ -307,6 +307,7 @@ low-pairs high (q ∷ asked) (r ∷ merged) seen = by (stamp_of r) seen.0
   where
     more : AllByRecursion (λ stamp. stamp ≤ high) (stamps (pairs_of asked merged))
     more = low-pairs high asked merged seen.1
+
     by : (o : Option ℕ) → ((stamp : ℕ) → o ≡ Some stamp → stamp ≤ high)
         → AllByRecursion (λ stamp. stamp ≤ high)
         (cons_option o (stamps (pairs_of asked merged)))
@@ -316,9 +317,10 @@ low-pairs high (q ∷ asked) (r ∷ merged) seen = by (stamp_of r) seen.0
 Pairwise-push : {X : Type 0} (R : X → X → Type 0) (xs : List X) (y : X) → Pairwise R xs
     → AllByRecursion (λ x. R x y) xs → Pairwise R (xs ++ y ∷ [])
 Pairwise-push R [] y pairwise all = (tt, tt)
-Pairwise-push R (x ∷ xs) y pairwise all =
-    (All-append (R x) xs (y ∷ []) pairwise.0 (all.0, tt),
-    Pairwise-push R xs y pairwise.1 all.1)
+Pairwise-push R (x ∷ xs) y pairwise all = (
+  All-append (R x) xs (y ∷ []) pairwise.0 (all.0, tt),
+  Pairwise-push R xs y pairwise.1 all.1,
+)
 
 -- ---- the exchange
 
@@ -413,16 +415,20 @@ module _ {F : Type 0} (setting : Setting) (sent : ℕ → List (Ask F))
             (stamps (exchange_pairs e))) k.promise.asks.exchanges exchange k.promise.asks.seen
             k.low;
         handled = All-append (λ e. AllByRecursion (IsHandled setting.told setting.layout)
-            e.handled) k.promise.asks.exchanges (exchange ∷ []) k.promise.asks.handled
-            (subst (λ l. AllByRecursion (IsHandled setting.told l) handled) (sym layout)
-            (handled-all setting.told n asked k.pending.tasks routes.places merged keyed
-            k.pending.taken k.pending.places m.own), tt);
+            e.handled) k.promise.asks.exchanges (exchange ∷ []) k.promise.asks.handled (
+              subst (λ l. AllByRecursion (IsHandled setting.told l) handled) (sym layout)
+                  (handled-all setting.told n asked k.pending.tasks routes.places merged keyed
+                  k.pending.taken k.pending.places m.own),
+              tt,
+            );
       };
     };
     low = All-append (λ e. AllByRecursion (λ stamp. stamp ≤ high) (stamps (exchange_pairs e)))
-        k.promise.asks.exchanges (exchange ∷ []) low-all
-        (subst (λ pairs. AllByRecursion (λ stamp. stamp ≤ high) (stamps pairs)) (sym pairs-are)
-        (low-pairs high asked merged low), tt);
+        k.promise.asks.exchanges (exchange ∷ []) low-all (
+          subst (λ pairs. AllByRecursion (λ stamp. stamp ≤ high) (stamps pairs)) (sym pairs-are)
+              (low-pairs high asked merged low),
+          tt,
+        );
     pending = record { none = refl; unasked = λ worker lt. refl; empty = empty };
     size = size ∙ k.size;
   }

@@ -196,13 +196,15 @@ module _ {F : Type 0} where
         | true ↦ λ yes.
             let here : later ≡ Here tasks = is ∙ ap (λ b. cond b (Here tasks) (Away count)) yes in
             let items : AllByRecursion IsReplied tasks.items =
-                subst (λ p. AllByRecursion IsReplied (tasks_here p)) here (replied yes) in
+            subst (λ p. AllByRecursion IsReplied (tasks_here p)) here (replied yes) in
             let size : length tasks.items ≡ count =
-                eq-of (length tasks.items) count (both-of (nat_eq (length tasks.items) count)
-                (all_fitting tasks.items) yes) in
-            subst (λ p. HasCome (task ∷ mine) (coming ++ replies_in tasks.items ∷ []) p) (sym here)
-            (ap (λ (xs : List (List Reply)). xs ++ replies_in tasks.items ∷ []) has.0,
-            size ∙ has.1, items)
+            eq-of (length tasks.items) count (both-of (nat_eq (length tasks.items) count)
+            (all_fitting tasks.items) yes) in
+            subst (λ p. HasCome (task ∷ mine) (coming ++ replies_in tasks.items ∷ []) p) (sym here) (
+              ap (λ (xs : List (List Reply)). xs ++ replies_in tasks.items ∷ []) has.0,
+              size ∙ has.1,
+              items,
+            )
         | false ↦ λ no.
             let away : later ≡ Away count = is ∙ ap (λ b. cond b (Here tasks) (Away count)) no in
             subst₂ (λ (xs : List (List Reply)) (p : Part). HasCome (task ∷ mine) xs p)
@@ -286,9 +288,9 @@ module _ {F : Type 0} where
       let u = k.pending in
       let new : ℕ → List (Answer F) = λ w. taken_of (part_of routes.parts w) (came w) in
       let longer : (w : ℕ) → length (p.heard w ++ new w) ≡ length (p.heard w) + length (new w) =
-          λ w. length-append (p.heard w) (new w) in
+      λ w. length-append (p.heard w) (new w) in
       let asking_is : (w : ℕ) → length (all_asking (later w)) ≡ length (all_asking (sent w)) =
-          λ w. ap (λ (xs : List (Ask F)). length (all_asking xs)) (told w) in
+      λ w. ap (λ (xs : List (Ask F)). length (all_asking xs)) (told w) in
       record {
         promise = record {
           heard = λ w. p.heard w ++ new w;
@@ -387,16 +389,16 @@ module _ {F : Type 0} where
       let p = k.promise in
       let n : ℕ = setting.workers in
       let message : ℕ → List (Ask F) = λ w.
-          message_for seen (tasks_out (part_of routes.parts w)) in
+      message_for seen (tasks_out (part_of routes.parts w)) in
       let out : (w : ℕ) → w < n → GoesOut seen (part_for n w tasks) (part_of routes.parts w) =
-          λ w lt. goes-out seen (part_for n w tasks) (part_of routes.parts w)
-          (subst (λ m. HasTasks (part_of routes.parts w) (part_for m w tasks)) many
-          (r.parts w (omega (arith, many, lt)))) in
+      λ w lt. goes-out seen (part_for n w tasks) (part_of routes.parts w)
+      (subst (λ m. HasTasks (part_of routes.parts w) (part_for m w tasks)) many
+      (r.parts w (omega (arith, many, lt)))) in
       let asking_is : (w : ℕ) → length (all_asking (later w))
-          ≡ length (all_asking (sent w)) + length (all_asking (message w)) = λ w.
-          ap (λ (xs : List (Ask F)). length (all_asking xs)) (told w)
-          ∙ ap length (flat_map-append asking (sent w) (message w))
-          ∙ length-append (all_asking (sent w)) (all_asking (message w)) in
+      ≡ length (all_asking (sent w)) + length (all_asking (message w)) = λ w.
+      ap (λ (xs : List (Ask F)). length (all_asking xs)) (told w)
+      ∙ ap length (flat_map-append asking (sent w) (message w))
+      ∙ length-append (all_asking (sent w)) (all_asking (message w)) in
       record {
         promise = record {
           heard = p.heard;

@@ -104,7 +104,7 @@ pub routed-own : (tasks : List Task) (g later : RoutesState) (task : Task) (repl
 routed-own tasks g later task reply places parts own r =
     let n : ℕ = length g.parts in
     let no : (worker : ℕ) → goes_to n worker task ≡ false = λ worker.
-        ap (λ (o : Option Reply). not (is_some o) && owns n worker (key_of task.request)) own in
+    ap (λ (o : Option Reply). not (is_some o) && owns n worker (key_of task.request)) own in
     routed-as (tasks ++ task ∷ []) later
     (subst₂ (λ (ps : List Place) (ws : List Part). RoutedAs (length ws) (tasks ++ task ∷ []) ps ws)
     (sym places) (sym parts) (
@@ -128,18 +128,18 @@ routed-worker tasks g later request number part some lt owned places parts adds 
     let now : List Part = set g.parts number part in
     let yes : goes_to n number task ≡ true = owns-self n number (key_of request) some owned in
     let no : (other : ℕ) → other ≢ number → goes_to n other task ≡ false = λ other ne.
-        owns-other n number other (key_of request) owned ne in
+    owns-other n number other (key_of request) owned ne in
     let here : HasTasks (part_of now number) (part_for n number more) =
-        subst₂ (λ (p : Part) (xs : List Task). HasTasks p xs)
-        (sym (get_or-set_same g.parts number part no_part lt))
-        (sym (part-grows n number tasks task yes))
-        (adds-has (part_of g.parts number) part task (part_for n number tasks) adds
-        (r.parts number lt)) in
+    subst₂ (λ (p : Part) (xs : List Task). HasTasks p xs)
+    (sym (get_or-set_same g.parts number part no_part lt))
+    (sym (part-grows n number tasks task yes))
+    (adds-has (part_of g.parts number) part task (part_for n number tasks) adds
+    (r.parts number lt)) in
     let there : (other : ℕ) → other ≢ number → other < n
-        → HasTasks (part_of now other) (part_for n other more) = λ other ne less.
-        subst₂ (λ (p : Part) (xs : List Task). HasTasks p xs)
-        (sym (get_or-set_other g.parts number other part no_part ne))
-        (sym (part-stays n other tasks task (no other ne))) (r.parts other less) in
+    → HasTasks (part_of now other) (part_for n other more) = λ other ne less.
+    subst₂ (λ (p : Part) (xs : List Task). HasTasks p xs)
+    (sym (get_or-set_other g.parts number other part no_part ne))
+    (sym (part-stays n other tasks task (no other ne))) (r.parts other less) in
     let all : RoutedAs n more (g.places ++ Worker number ∷ []) now = (
       ArePlaces-more n tasks g.places task (Worker number) r.places (refl, lt, yes),
       λ worker less. ⊎_elim

@@ -48,6 +48,7 @@ are-seen high (task ∷ tasks) (reply ∷ replies) have all = (
   where
     head : HaveReplies (task ∷ tasks) (reply ∷ replies) → task.reply ≡ Some reply
     head e = cc
+
     tail : HaveReplies (task ∷ tasks) (reply ∷ replies) → HaveReplies tasks replies
     tail e = cc
 

@@ -27,119 +27,119 @@ use Rattle.kv_session_party.proofs.PromiseLemmas.{TellsSame, tells-same, keeps-s
 use Rattle.kv_session_party.proofs.PromiseLemmas.{keeps-received}
 
 module _ {So Si F : Type 0} (streams : Streams So Si) (setting : Setting) (source : So) (sink : Si)
-    where
-  -- the rings tell the same, but for what the promise doesn't speak of
-  pub Tells-same : (now : SessionState So Si) (sent later : ℕ → List (Ask F))
-      (received hears : ℕ → List (Answer F)) (seen : ℕ) (routes : RoutesState) (waiting : Bool)
-      → TellsSame setting.workers sent later → ((worker : ℕ) → hears worker ≡ received worker)
-      → Tells streams setting source sink now sent received seen routes waiting
-      → Tells streams setting source sink now later hears seen routes waiting
-  Tells-same now sent later received hears seen routes waiting told heard t = record {
-    groups = t.groups;
-    asked = t.asked;
-    keeps = keeps-same setting sent later received hears t.groups seen routes t.asked waiting told
-        heard t.keeps;
-    course = t.course;
-  }
+  where
+    -- the rings tell the same, but for what the promise doesn't speak of
+    pub Tells-same : (now : SessionState So Si) (sent later : ℕ → List (Ask F))
+        (received hears : ℕ → List (Answer F)) (seen : ℕ) (routes : RoutesState) (waiting : Bool)
+        → TellsSame setting.workers sent later → ((worker : ℕ) → hears worker ≡ received worker)
+        → Tells streams setting source sink now sent received seen routes waiting
+        → Tells streams setting source sink now later hears seen routes waiting
+    Tells-same now sent later received hears seen routes waiting told heard t = record {
+      groups = t.groups;
+      asked = t.asked;
+      keeps = keeps-same setting sent later received hears t.groups seen routes t.asked waiting told
+          heard t.keeps;
+      course = t.course;
+    }
 
-  -- a session that goes on has read
-  course-read : (now : SessionState So Si) (groups : List (List Pair)) (asked : List Request)
-      (waiting : Bool) → now.ending ≡ None
-      → HasCourse streams source sink groups asked waiting now now.ending
-      → HasRead streams source sink groups asked now
-  course-read now groups asked waiting none course =
-      subst (λ o. HasCourse streams source sink groups asked waiting now o) none course
+    -- a session that goes on has read
+    course-read : (now : SessionState So Si) (groups : List (List Pair)) (asked : List Request)
+        (waiting : Bool) → now.ending ≡ None
+        → HasCourse streams source sink groups asked waiting now now.ending
+        → HasRead streams source sink groups asked now
+    course-read now groups asked waiting none course =
+        subst (λ o. HasCourse streams source sink groups asked waiting now o) none course
 
-  read-course : (now : SessionState So Si) (groups : List (List Pair)) (asked : List Request)
-      (waiting : Bool) → HasRead streams source sink groups asked now
-      → HasCourse streams source sink groups asked waiting now now.ending
-  read-course now groups asked waiting read =
-      subst (λ o. HasCourse streams source sink groups asked waiting now o) (sym read.goes_on) read
+    read-course : (now : SessionState So Si) (groups : List (List Pair)) (asked : List Request)
+        (waiting : Bool) → HasRead streams source sink groups asked now
+        → HasCourse streams source sink groups asked waiting now now.ending
+    read-course now groups asked waiting read =
+        subst (λ o. HasCourse streams source sink groups asked waiting now o) (sym read.goes_on) read
 
-  -- a group was read, routed and asked
-  pub Tells-asked : (old now : SessionState So Si) (sent later : ℕ → List (Ask F))
-      (received hears : ℕ → List (Answer F)) (seen : ℕ) (before routes after : RoutesState)
-      (asked : List Request) (tasks : List Task) → old.ending ≡ None
-      → ((groups : List (List Pair)) → HasRead streams source sink groups [] old
-      → HasRead streams source sink groups asked now)
-      → AreTaken asked tasks → IsRouted tasks routes → length routes.parts ≡ setting.workers
-      → ((worker : ℕ) → later worker
-      ≡ sent worker ++ message_for seen (tasks_out (part_of routes.parts worker)))
-      → ((worker : ℕ) → hears worker ≡ received worker)
-      → ((worker : ℕ) → part_of after.parts worker ≡ part_out (part_of routes.parts worker))
-      → after.places ≡ routes.places → length after.parts ≡ length routes.parts
-      → Tells streams setting source sink old sent received seen before false
-      → Tells streams setting source sink now later hears seen after true
-  Tells-asked old now sent later received hears seen before routes after asked tasks going gathered
-      taken r many told heard parts places size t =
-      let none : t.asked ≡ [] = t.keeps.pending.none in
-      record {
-        groups = t.groups;
-        asked = asked;
-        keeps = keeps-asked setting sent later received hears t.groups seen before routes after
-            asked tasks taken r many told heard parts places size
-            (subst (λ (rs : List Request). Keeps setting sent received t.groups seen before rs
-            false) none t.keeps);
-        course = read-course now t.groups asked true (gathered t.groups
-            (subst (λ (rs : List Request). HasRead streams source sink t.groups rs old) none
-            (course-read old t.groups t.asked false going t.course)));
-      }
+    -- a group was read, routed and asked
+    pub Tells-asked : (old now : SessionState So Si) (sent later : ℕ → List (Ask F))
+        (received hears : ℕ → List (Answer F)) (seen : ℕ) (before routes after : RoutesState)
+        (asked : List Request) (tasks : List Task) → old.ending ≡ None
+        → ((groups : List (List Pair)) → HasRead streams source sink groups [] old
+        → HasRead streams source sink groups asked now)
+        → AreTaken asked tasks → IsRouted tasks routes → length routes.parts ≡ setting.workers
+        → ((worker : ℕ) → later worker
+        ≡ sent worker ++ message_for seen (tasks_out (part_of routes.parts worker)))
+        → ((worker : ℕ) → hears worker ≡ received worker)
+        → ((worker : ℕ) → part_of after.parts worker ≡ part_out (part_of routes.parts worker))
+        → after.places ≡ routes.places → length after.parts ≡ length routes.parts
+        → Tells streams setting source sink old sent received seen before false
+        → Tells streams setting source sink now later hears seen after true
+    Tells-asked old now sent later received hears seen before routes after asked tasks going gathered
+        taken r many told heard parts places size t =
+        let none : t.asked ≡ [] = t.keeps.pending.none in
+        record {
+          groups = t.groups;
+          asked = asked;
+          keeps = keeps-asked setting sent later received hears t.groups seen before routes after
+              asked tasks taken r many told heard parts places size
+              (subst (λ (rs : List Request). Keeps setting sent received t.groups seen before rs
+              false) none t.keeps);
+          course = read-course now t.groups asked true (gathered t.groups
+              (subst (λ (rs : List Request). HasRead streams source sink t.groups rs old) none
+              (course-read old t.groups t.asked false going t.course)));
+        }
 
-  -- answers came
-  pub Tells-received : (now : SessionState So Si) (sent later : ℕ → List (Ask F))
-      (received hears : ℕ → List (Answer F)) (seen : ℕ) (routes after : RoutesState)
-      (came : ℕ → Option (Answer F)) → now.ending ≡ None
-      → ((worker : ℕ) → later worker ≡ sent worker)
-      → ((worker : ℕ) → hears worker ≡ received worker ++ option_to_list (came worker))
-      → ((worker : ℕ) → part_of after.parts worker
-      ≡ part_behind_came (part_of routes.parts worker) (came worker))
-      → ((worker : ℕ) (answer : Answer F) → came worker ≡ Some answer
-      → is_taken (part_of routes.parts worker) answer ≡ true
-      → AllByRecursion IsReplied (tasks_here (part_of after.parts worker)))
-      → after.places ≡ routes.places → length after.parts ≡ length routes.parts
-      → Tells streams setting source sink now sent received seen routes true
-      → Tells streams setting source sink now later hears seen after true
-  Tells-received now sent later received hears seen routes after came going told heard parts replied
-      places size t = record {
-        groups = t.groups;
-        asked = t.asked;
-        keeps = keeps-received setting sent later received hears t.groups seen routes after t.asked
-            came told heard parts replied places size t.keeps;
-        course = t.course;
-      }
+    -- answers came
+    pub Tells-received : (now : SessionState So Si) (sent later : ℕ → List (Ask F))
+        (received hears : ℕ → List (Answer F)) (seen : ℕ) (routes after : RoutesState)
+        (came : ℕ → Option (Answer F)) → now.ending ≡ None
+        → ((worker : ℕ) → later worker ≡ sent worker)
+        → ((worker : ℕ) → hears worker ≡ received worker ++ option_to_list (came worker))
+        → ((worker : ℕ) → part_of after.parts worker
+        ≡ part_behind_came (part_of routes.parts worker) (came worker))
+        → ((worker : ℕ) (answer : Answer F) → came worker ≡ Some answer
+        → is_taken (part_of routes.parts worker) answer ≡ true
+        → AllByRecursion IsReplied (tasks_here (part_of after.parts worker)))
+        → after.places ≡ routes.places → length after.parts ≡ length routes.parts
+        → Tells streams setting source sink now sent received seen routes true
+        → Tells streams setting source sink now later hears seen after true
+    Tells-received now sent later received hears seen routes after came going told heard parts replied
+        places size t = record {
+          groups = t.groups;
+          asked = t.asked;
+          keeps = keeps-received setting sent later received hears t.groups seen routes after t.asked
+              came told heard parts replied places size t.keeps;
+          course = t.course;
+        }
 
-  -- behind the replies the session goes on or has ended
-  course-of : (now : SessionState So Si) (groups : List (List Pair)) (closing : Option Cause)
-      (whole : Bool) → Delivers streams source sink groups closing now whole
-      → HasCourse streams source sink groups [] false now now.ending
-  course-of now groups None true read = read-course now groups [] false read
-  course-of now groups (Some cause) true ended =
-      subst (λ o. HasCourse streams source sink groups [] false now o) (sym ended.ending_is)
-      (ended.session, refl)
-  course-of now groups closing false ended =
-      subst (λ o. HasCourse streams source sink groups [] false now o) (sym ended.ending_is)
-      (ended.session, refl)
+    -- behind the replies the session goes on or has ended
+    course-of : (now : SessionState So Si) (groups : List (List Pair)) (closing : Option Cause)
+        (whole : Bool) → Delivers streams source sink groups closing now whole
+        → HasCourse streams source sink groups [] false now now.ending
+    course-of now groups None true read = read-course now groups [] false read
+    course-of now groups (Some cause) true ended =
+        subst (λ o. HasCourse streams source sink groups [] false now o) (sym ended.ending_is)
+        (ended.session, refl)
+    course-of now groups closing false ended =
+        subst (λ o. HasCourse streams source sink groups [] false now o) (sym ended.ending_is)
+        (ended.session, refl)
 
-  -- the group's replies were merged and written
-  pub Tells-merged : (old now : SessionState So Si) (sent : ℕ → List (Ask F))
-      (received : ℕ → List (Answer F)) (seen high : ℕ) (routes after : RoutesState)
-      (merged : List Reply) (whole : Bool) → setting.layout ≡ all_classes
-      → ((worker : ℕ) → is_away (part_of routes.parts worker) ≡ false)
-      → IsMerged routes.places (λ worker. replies_in (tasks_here (part_of routes.parts worker)))
-      merged
-      → seen ≤ high → AreSeen high merged → IsEmpty after
-      → length after.parts ≡ length routes.parts
-      → (t : Tells streams setting source sink old sent received seen routes true)
-      → AllByRecursion (λ request. IsSome (key_of request)) t.asked
-      → Delivers streams source sink (with_pairs t.groups (pairs_of t.asked merged)) old.closing now
-      whole
-      → Tells streams setting source sink now sent received high after false
-  Tells-merged old now sent received seen high routes after merged whole layout here m up low empty
-      size t keyed delivered = record {
-        groups = with_pairs t.groups (pairs_of t.asked merged);
-        asked = [];
-        keeps = keeps-merged setting sent received t.groups seen high routes after t.asked merged
-            layout keyed here m up low empty size t.keeps;
-        course = course-of now (with_pairs t.groups (pairs_of t.asked merged)) old.closing whole
-            delivered;
-      }
+    -- the group's replies were merged and written
+    pub Tells-merged : (old now : SessionState So Si) (sent : ℕ → List (Ask F))
+        (received : ℕ → List (Answer F)) (seen high : ℕ) (routes after : RoutesState)
+        (merged : List Reply) (whole : Bool) → setting.layout ≡ all_classes
+        → ((worker : ℕ) → is_away (part_of routes.parts worker) ≡ false)
+        → IsMerged routes.places (λ worker. replies_in (tasks_here (part_of routes.parts worker)))
+        merged
+        → seen ≤ high → AreSeen high merged → IsEmpty after
+        → length after.parts ≡ length routes.parts
+        → (t : Tells streams setting source sink old sent received seen routes true)
+        → AllByRecursion (λ request. IsSome (key_of request)) t.asked
+        → Delivers streams source sink (with_pairs t.groups (pairs_of t.asked merged)) old.closing now
+        whole
+        → Tells streams setting source sink now sent received high after false
+    Tells-merged old now sent received seen high routes after merged whole layout here m up low empty
+        size t keyed delivered = record {
+          groups = with_pairs t.groups (pairs_of t.asked merged);
+          asked = [];
+          keeps = keeps-merged setting sent received t.groups seen high routes after t.asked merged
+              layout keyed here m up low empty size t.keeps;
+          course = course-of now (with_pairs t.groups (pairs_of t.asked merged)) old.closing whole
+              delivered;
+        }

@@ -59,6 +59,7 @@ pub struct SessionParty<So: Source, Si: Sink, F> {
     ghost ended: { over ≡ is_some session.ending },
     ghost closed: { read_all ≡ is_some session.closing },
     ghost reads: { over ≡ false → waiting ≡ false → read_all ≡ false },
+    ghost rests: { over ≡ true → waiting ≡ false },
     ghost away: { over ≡ false → WaitsAway links routes },
     ghost promise: { let streams : Streams So Si = record {
       stream = So.stream;
@@ -72,12 +73,14 @@ pub struct SessionParty<So: Source, Si: Sink, F> {
 
 impl<So: Source + Drop, Si: Sink + Drop, F: Drop> SessionParty<So, Si, F> {
     ghost use Rattle.std.specs.Prelude.{◌≡◌, ◌↔◌, ℕ, ◌+◌, ◌<◌, ◌≤◌, ◌^◌, min, length, IfOk, IfErr};
-    ghost use Rattle.std.specs.Prelude.{[], None, true, false};
+    ghost use Rattle.std.specs.Prelude.{[], None, true, false, not, ◌≢◌};
     ghost use Rattle.kv_ring.specs.Ends.{peers, known_from, IsFresh, AreBetween, SameRings, Looked};
     ghost use Rattle.kv_ring.specs.Ends.{HasAll, KnowsPlaces};
     ghost use Rattle.kv_session_party.specs.declared.turn.Turn.TheVariants as turn;
-    ghost use Rattle.kv_session_party.specs.Links.{waiting_for};
-    ghost use Rattle.kv_session_party.specs.Party.{is_over, FindsNothing};
+    ghost use Rattle.kv_session.specs.Session.{KeepsReading};
+    ghost use Rattle.kv_session_party.specs.Exchanges.{Receives};
+    ghost use Rattle.kv_session_party.specs.Links.{waiting_for, heard_from, coming_from};
+    ghost use Rattle.kv_session_party.specs.Party.{is_over, TurnsWaiting, TurnsReading, WaitsFor};
     ghost use Rattle.kv_session_party.specs.Routes.{all_here};
     ghost use Rattle.kv_stamps.specs.Steps.{Raises, Looks};
 
@@ -93,7 +96,8 @@ impl<So: Source + Drop, Si: Sink + Drop, F: Drop> SessionParty<So, Si, F> {
         requires { IsFresh ends }
         ensures parts { IfOk result (λ party. (party.first.value.source ≡ source)
             × (party.first.value.sink ≡ sink) × (party.links.ends ≡ ends)
-            × (party.seat ≡ seat) × (party.session ≡ party.first.value)) }
+            × (party.seat ≡ seat) × (party.session ≡ party.first.value)
+            × (party.waiting ≡ false)) }
         ensures err { IfErr result (λ refused. (refused.0 ≡ source) × (refused.1 ≡ sink)) }
     {
         let Ok(tasks) = ReservedList::with_room(alloc, MOST_REQUESTS) else {
@@ -132,8 +136,14 @@ impl<So: Source + Drop, Si: Sink + Drop, F: Drop> SessionParty<So, Si, F> {
         requires { self.old.seat.counter ≡ stamps.now }
         ensures ended { (result ≡ turn.Ended)
             ↔ (is_over self.new.session.ending self.new.links ≡ true) }
-        ensures idle { result ≡ turn.Idle → (self.old.waiting ≡ true)
-            × FindsNothing self.old.links self.new.links self.old.routes }
+
+        // Where a group is on its way it takes the answers that are owed; else it reads one.
+        ensures waits { self.old.waiting ≡ true → TurnsWaiting self.old.links self.new.links
+            self.old.routes self.new.waiting (is_over self.new.session.ending self.new.links)
+            result }
+        ensures reads { self.old.waiting ≡ false → self.old.session.ending ≡ None
+            → TurnsReading self.old.session self.new.session × (result ≢ turn.Idle) }
+        ensures rests { self.old.session.ending ≢ None → self.new.session ≡ self.old.session }
         ensures rings { SameRings self.old.links.ends self.new.links.ends }
         ensures seat { self.new.seat ≡ self.old.seat }
         ensures first { self.new.first.value ≡ self.old.first.value }
@@ -157,6 +167,11 @@ impl<So: Source + Drop, Si: Sink + Drop, F: Drop> SessionParty<So, Si, F> {
     /// Reads a group, or takes the answers that are owed. The answer is whether it did more than
     /// look for answers.
     fn go_on(&mut self) -> bool
+        ensures waits { self.old.waiting ≡ true → WaitsFor self.old.links self.new.links
+            self.old.routes self.new.waiting result }
+        ensures reads { self.old.waiting ≡ false → self.old.over ≡ false
+            → TurnsReading self.old.session self.new.session × (result ≡ true) }
+        ensures rests { self.old.over ≡ true → self.new.session ≡ self.old.session }
         ensures rings { SameRings self.old.links.ends self.new.links.ends }
         ensures seat { self.new.seat ≡ self.old.seat }
         ensures first { self.new.first.value ≡ self.old.first.value }
@@ -173,8 +188,24 @@ impl<So: Source + Drop, Si: Sink + Drop, F: Drop> SessionParty<So, Si, F> {
 
     /// Reads a group, and asks it of the workers; where none gets a request it writes the replies.
     fn read(&mut self)
-        requires goes_on { self.old.session.ending ≡ None }
+        requires goes_on { self.old.over ≡ false }
         requires reads { self.old.waiting ≡ false }
+        ensures reads { TurnsReading self.old.session self.new.session }
+        ensures rings { SameRings self.old.links.ends self.new.links.ends }
+        ensures seat { self.new.seat ≡ self.old.seat }
+        ensures first { self.new.first.value ≡ self.old.first.value }
+    {
+        self.ask_group();
+        self.reply_if_here();
+    }
+
+    /// Reads a group, and asks it of the workers.
+    fn ask_group(&mut self)
+        requires goes_on { self.old.over ≡ false }
+        requires reads { self.old.waiting ≡ false }
+        ensures reads { TurnsReading self.old.session self.new.session }
+        ensures goes_on { self.new.over ≡ false }
+        ensures waits { self.new.waiting ≡ true }
         ensures rings { SameRings self.old.links.ends self.new.links.ends }
         ensures seat { self.new.seat ≡ self.old.seat }
         ensures first { self.new.first.value ≡ self.old.first.value }
@@ -184,27 +215,47 @@ impl<So: Source + Drop, Si: Sink + Drop, F: Drop> SessionParty<So, Si, F> {
         self.routes.split(&mut self.tasks);
         ask(&mut self.links, &mut self.routes, self.seen);
         self.waiting = true;
-        self.reply_if_here();
     }
 
     /// Takes the answers that are owed, and where none is owed any more writes the replies. The
     /// answer is whether any came.
     fn wait(&mut self) -> bool
-        requires goes_on { self.old.session.ending ≡ None }
+        requires goes_on { self.old.over ≡ false }
         requires waits { self.old.waiting ≡ true }
+        ensures waits { WaitsFor self.old.links self.new.links self.old.routes self.new.waiting
+            result }
         ensures rings { SameRings self.old.links.ends self.new.links.ends }
         ensures seat { self.new.seat ≡ self.old.seat }
         ensures first { self.new.first.value ≡ self.old.first.value }
     {
-        let came = receive(&mut self.links, &mut self.routes);
+        let came = self.take_answers();
         self.reply_if_here();
         came
     }
 
+    /// Takes the answers that are owed. The answer is whether any came.
+    fn take_answers(&mut self) -> bool
+        requires goes_on { self.old.over ≡ false }
+        requires waits { self.old.waiting ≡ true }
+        ensures receives { Receives self.old.links self.new.links self.old.routes self.new.routes
+            result }
+        ensures goes_on { self.new.over ≡ false }
+        ensures waits { self.new.waiting ≡ true }
+        ensures seat { self.new.seat ≡ self.old.seat }
+        ensures first { self.new.first.value ≡ self.old.first.value }
+    {
+        receive(&mut self.links, &mut self.routes)
+    }
+
     /// Writes the replies of the group, unless a worker's tasks are away.
     fn reply_if_here(&mut self)
-        requires goes_on { self.old.session.ending ≡ None }
+        requires goes_on { self.old.over ≡ false }
         requires waits { self.old.waiting ≡ true }
+        ensures waits { self.new.waiting ≡ not (all_here self.old.routes.parts) }
+        ensures reading { KeepsReading self.old.session self.new.session }
+        ensures heard { (worker : ℕ)
+            → (heard_from self.new.links worker ≡ heard_from self.old.links worker)
+            × (coming_from self.new.links worker ≡ coming_from self.old.links worker) }
         ensures rings { SameRings self.old.links.ends self.new.links.ends }
         ensures seat { self.new.seat ≡ self.old.seat }
         ensures first { self.new.first.value ≡ self.old.first.value }
@@ -217,9 +268,11 @@ impl<So: Source + Drop, Si: Sink + Drop, F: Drop> SessionParty<So, Si, F> {
 
     /// Writes the replies of the group, of which no worker's tasks are away.
     fn reply(&mut self)
-        requires goes_on { self.old.session.ending ≡ None }
+        requires goes_on { self.old.over ≡ false }
         requires waits { self.old.waiting ≡ true }
         requires here { all_here self.old.routes.parts ≡ true }
+        ensures reading { KeepsReading self.old.session self.new.session }
+        ensures waits { self.new.waiting ≡ false }
         ensures links { self.new.links ≡ self.old.links }
         ensures here { all_here self.new.routes.parts ≡ true }
         ensures seat { self.new.seat ≡ self.old.seat }
@@ -237,6 +290,11 @@ impl<So: Source + Drop, Si: Sink + Drop, F: Drop> SessionParty<So, Si, F> {
     /// Tells the workers where the session has ended.
     fn say_bye(&mut self)
         requires free { (worker : ℕ) → waiting_for self.old.links worker ≡ None }
+        ensures session { self.new.session ≡ self.old.session }
+        ensures waits { self.new.waiting ≡ self.old.waiting }
+        ensures heard { (worker : ℕ)
+            → (heard_from self.new.links worker ≡ heard_from self.old.links worker)
+            × (coming_from self.new.links worker ≡ coming_from self.old.links worker) }
         ensures rings { SameRings self.old.links.ends self.new.links.ends }
         ensures seat { self.new.seat ≡ self.old.seat }
         ensures first { self.new.first.value ≡ self.old.first.value }

@@ -7,7 +7,8 @@ use std::test::Fail;
 
 // Put a 1, Get with an empty key, Get b, Delete c, Flush. Of two workers, 0 owns a and c, and 1
 // owns b: the hash of one byte is odd exactly where the byte is even.
-const GROUP: &[u8] = b"\x04\0\0\0\x01\x01a1\x01\0\0\0\x02\x02\0\0\0\x02b\x02\0\0\0\x03c\x01\0\0\0\x05";
+const GROUP: &[u8] =
+    b"\x04\0\0\0\x01\x01a1\x01\0\0\0\x02\x02\0\0\0\x02b\x02\0\0\0\x03c\x01\0\0\0\x05";
 
 // Stored a, BadKey, Missing b, Absent c: the stamp of each reply is the first byte of its key.
 const REPLIES: &[u8] = b"\x09\0\0\0\x81a\0\0\0\0\0\0\0\x01\0\0\0\xE1\

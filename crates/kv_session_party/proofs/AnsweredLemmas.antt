@@ -9,7 +9,8 @@ use Rattle.kv_base.specs.declared.reply.Reply.{Reply}
 use Rattle.kv_model.specs.Frames.{HasReplyFrame}
 use Rattle.kv_ring.specs.declared.task.Task.{Task}
 use Rattle.kv_session_party.specs.Promise.{HasCome}
-use Rattle.kv_session_party.specs.Routes.{AreAnswered, ArePlaces, IsPlace, IsKnown, IsReplied, all_here}
+use Rattle.kv_session_party.specs.Asking.{IsReplied}
+use Rattle.kv_session_party.specs.Routes.{AreAnswered, ArePlaces, IsPlace, IsKnown, all_here}
 use Rattle.kv_session_party.specs.Routes.{is_at, is_away, goes_to, part_for, part_of, tasks_here, no_part}
 use Rattle.kv_session_party.specs.Routes.{replies_in}
 use Rattle.kv_session_party.specs.declared.part.Part.{Part}

@@ -1,3 +1,6 @@
+pub mod HearingLemmas
+pub mod TakingLemmas
+pub mod PartLemmas
 pub mod RouteLemmas
 pub mod MergeLemmas
 pub mod ExchangeLemmas

@@ -18,7 +18,8 @@ use Rattle.kv_ring.specs.declared.task.Task.{Task}
 use Rattle.kv_session_party.specs.Routes.{RoutesState, IsRouted, ArePlaces, HasTasks, part_of}
 use Rattle.kv_session_party.specs.Routes.{tasks_here, is_away, is_at, no_part}
 use Rattle.kv_session_party.specs.Routes.{replies_in, replies_at, IsOwn, HaveOwn, IsMerged}
-use Rattle.kv_session_party.specs.Routes.{IsKnown, AreAnswered, IsReplied, EndsReplied, TakesReply}
+use Rattle.kv_session_party.specs.Asking.{IsReplied}
+use Rattle.kv_session_party.specs.Routes.{IsKnown, AreAnswered, EndsReplied, TakesReply}
 use Rattle.kv_session.specs.Tasks.{HaveReplies}
 use Rattle.kv_session_party.specs.declared.part.Part.{Part}
 use Rattle.kv_session_party.specs.declared.part.Part.TheVariants.{Here, Away}

@@ -1,9 +1,9 @@
 -- A group whose replies are merged is an exchange more.
-use Rattle.std.proofs.Common.{◌≡◌, ◌⊎◌, inl, inr, ℕ, suc, ◌+◌, ◌<◌, ◌≤◌, List, [], ◌∷◌, ◌++◌, length}
+use Rattle.std.proofs.Common.{◌≡◌, ◌⊎◌, inl, inr, ℕ, suc, ◌+◌, ◌<◌, ◌≤◌, ◌^◌, List, [], ◌∷◌, ◌++◌, length}
 use Rattle.std.proofs.Common.{map, Option, None, Some, Bool, true, false, cond, nat_eq, refl, sym, ap}
 use Rattle.std.proofs.Common.{◌∙◌, subst, arith}
 use Rattle.std.specs.Prelude.{not, is_some, ◌&&◌, IsSome, MatchOption, filter}
-use Rattle.std.specs.List.{AllByRecursion, cons_option}
+use Rattle.std.specs.List.{AllByRecursion, cons_option, filter_map}
 use Rattle.std.proofs.lemmas.Bool.{true≢false, false≢true}
 use Rattle.std.proofs.lemmas.Bool.Decides.{nat_tests}
 use Rattle.std.proofs.lemmas.List.{append-nil, map-append}
@@ -13,15 +13,14 @@ use Rattle.kv_base.specs.declared.reply.Reply.{Reply}
 use Rattle.kv_base.specs.declared.reply.Reply.TheVariants.{BadKey, TooLarge, NoMemory}
 use Rattle.kv_base.specs.declared.request.Request.{Request}
 use Rattle.kv_base.specs.declared.request.Request.TheVariants.{Put, Get, Delete, Flush}
-use Rattle.kv_model.proofs.PairwiseLemmas.{All-append, All-map}
-use Rattle.kv_model.specs.Agreement.{IsMapAnswer, IsRefusal, refusal_of}
+use Rattle.kv_model.proofs.PairwiseLemmas.{All-append}
+use Rattle.kv_model.specs.Agreement.{refusal_of}
 use Rattle.kv_model.specs.BatchLaws.{pairs_of}
-use Rattle.kv_model.specs.History.{Write}
 use Rattle.kv_model.specs.Layout.{all_classes, class_of, is_key_length}
 use Rattle.kv_model.specs.Pairs.{Pair, key_of, stamp_of, stamps}
-use Rattle.kv_model.specs.Pairwise.{Pairwise}
 use Rattle.kv_parties.specs.Groups.{Asked}
-use Rattle.kv_parties.specs.Sessions.{Handled, Exchange, IsHandled, exchange_pairs, asked_by}
+use Rattle.kv_parties.specs.Messages.{all_asking}
+use Rattle.kv_parties.specs.Sessions.{Handled, Exchange, exchange_pairs, asked_by}
 use Rattle.kv_parties.specs.Sessions.{replied_by, all_asked, all_replied}
 use Rattle.kv_parties.specs.Sessions.{part_of as pairs_for, goes_to as pair_goes_to}
 use Rattle.kv_parties.specs.Setting.{Setting, owns}
@@ -29,18 +28,21 @@ use Rattle.kv_ring.specs.Tasks.{requests_of}
 use Rattle.kv_ring.specs.declared.message.Answer.{Answer}
 use Rattle.kv_ring.specs.declared.message.Ask.{Ask}
 use Rattle.kv_ring.specs.declared.task.Task.{Task}
-use Rattle.kv_session_party.specs.Party.{AreSeen}
 use Rattle.kv_session.specs.Passage.{with_pairs}
-use Rattle.kv_session_party.specs.Promise.{Keeps, HasCome, handled_by, asked_for}
-use Rattle.kv_session_party.specs.Routes.{RoutesState, IsEmpty, IsMerged, ArePlaces, IsPlace, HaveOwn}
-use Rattle.kv_session_party.specs.Routes.{IsOwn, IsReplied, part_of, part_for, goes_to, is_at, replies_at}
-use Rattle.kv_session_party.specs.Routes.{replies_in, tasks_here, is_away}
 use Rattle.kv_session.specs.Tasks.{AreTaken, GoesOn, IsRefused}
+use Rattle.kv_session_party.specs.Asking.{IsHandled, HaveSeen, seen_behind, greatest, message_of}
+use Rattle.kv_session_party.specs.Asking.{IsReplied, SessionPromise}
+use Rattle.kv_session_party.specs.Promise.{Keeps, StandsIn, IsOwed, handled_by}
+use Rattle.kv_session_party.specs.Routes.{RoutesState, IsEmpty, IsMerged, ArePlaces, IsPlace, HaveOwn}
+use Rattle.kv_session_party.specs.Routes.{IsOwn, part_of, part_for, goes_to, is_at, replies_at}
+use Rattle.kv_session_party.specs.Routes.{replies_in, tasks_here, is_away}
 use Rattle.kv_session_party.specs.declared.part.Part.{Part}
 use Rattle.kv_session_party.specs.declared.part.Part.TheVariants.{Here, Away}
 use Rattle.kv_session_party.specs.declared.routes.Place.{Place}
 use Rattle.kv_session_party.specs.declared.routes.Place.TheVariants.{Own, Worker}
-use Rattle.kv_session_party.proofs.MergeLemmas.{replies-more}
+use Rattle.kv_session_party.proofs.MergeLemmas.{HaveOwn-length, replies-more}
+use Rattle.kv_session_party.proofs.PromiseLemmas.{task-request}
+use Rattle.kv_session_party.proofs.RouteLemmas.{ArePlaces-length}
 
 eq-of : (m n : ℕ) → nat_eq m n ≡ true → m ≡ n
 eq-of m n e = grind (arith, nat_tests)
@@ -110,15 +112,6 @@ part-replies n worker (q ∷ asked) (t ∷ tasks) (p ∷ places) (r ∷ merged) 
       | true ↦ ap (λ (rs : List Reply). r ∷ rs) more
       | false ↦ more
     ])
-
--- the request of a task that goes to a worker
-task-request : (n worker : ℕ) (request : Request) (task : Task)
-    → GoesOn request task ⊎ IsRefused request task → goes_to n worker task ≡ true
-    → request ≡ task.request
-task-request n worker request task (inl on) yes = sym on.request_is
-task-request n worker request task (inr refused) yes = absurd (false≢true
-    (sym (ap (λ (o : Option Reply). not (is_some o) && owns n worker (key_of task.request))
-    refused.answered) ∙ yes))
 
 -- the requests of a worker's pairs are those of its tasks
 part-requests : (n worker : ℕ) (asked : List Request) (tasks : List Task) (places : List Place)
@@ -192,31 +185,6 @@ refused-has P none bad large (Delete key) reply own =
     by false e = subst P (sym e) bad
 refused-has P none bad large Flush reply own = subst P (sym own) none
 
--- want of memory may be answered to each request about a key
-no_memory-may : (told : Bool) (history : List Write) (request : Request)
-    → IsSome (key_of request) → IsMapAnswer told all_classes history request NoMemory
-no_memory-may told history (Put key value) keyed = tt
-no_memory-may told history (Get key) keyed = tt
-no_memory-may told history (Delete key) keyed = tt
-no_memory-may told history Flush keyed = absurd (false≢true keyed)
-
--- each is a refusal
-own-refusal : (told : Bool) (request : Request) (reply : Reply) → IsSome (key_of request)
-    → MatchOption (refusal_of all_classes request) (reply ≡ NoMemory)
-    (λ refusal. reply ≡ refusal)
-    → IsRefusal told all_classes (record { request = request; reply = reply })
-own-refusal told request reply keyed own = record {
-  stampless = refused-has (λ r. stamp_of r ≡ None) refl refl refl request reply own;
-  answer = λ history. by history (refusal_of all_classes request) own;
-} where
-  by : (history : List Write) (o : Option Reply)
-      → MatchOption o (reply ≡ NoMemory) (λ refusal. reply ≡ refusal)
-      → MatchOption o (IsMapAnswer told all_classes history request reply)
-      (λ refusal. reply ≡ refusal)
-  by history None e = subst (IsMapAnswer told all_classes history request) (sym e)
-      (no_memory-may told history request keyed)
-  by history (Some refusal) e = e
-
 some-eq : (one other : Reply) → Some one ≡ Some other → one ≡ other
 some-eq one other e = cc
 
@@ -231,41 +199,40 @@ own-reply n task (Worker number) reply own is owned answered =
     none-is : (own : Reply) → None ≡ Some own → ⊥
     none-is own e = cc
 
--- a pair of the group is a refusal of the session's, or is about a key and goes to a worker
-handled-one : (told : Bool) (n : ℕ) (request : Request) (task : Task) (place : Place) (reply : Reply)
+-- a pair of the group is about a key, and what the session answers itself is such a refusal
+handled-one : (n : ℕ) (request : Request) (task : Task) (place : Place) (reply : Reply)
     → IsSome (key_of request) → GoesOn request task ⊎ IsRefused request task
-    → IsPlace n task place → IsOwn place reply → IsHandled told all_classes (record {
+    → IsPlace n task place → IsOwn place reply → IsHandled all_classes (record {
       pair = record { request = request; reply = reply };
       routed = not (is_some task.reply);
     })
-handled-one told n request task place reply keyed (inl on) is own = record {
+handled-one n request task place reply keyed (inl on) is own = record {
+  keyed = keyed;
   own = λ no. absurd (true≢false (sym (ap (λ (o : Option Reply). not (is_some o)) on.waits) ∙ no));
-  keyed = λ yes. keyed;
 }
-handled-one told n request task place reply keyed (inr refused) is own = record {
-  own = λ no. own-refusal told request reply keyed (subst (λ (r : Reply).
-      MatchOption (refusal_of all_classes request) (r ≡ NoMemory) (λ refusal. r ≡ refusal))
-      (sym (own-reply n task place reply refused.reply is own refused.answered)) refused.cause);
-  keyed = λ yes. keyed;
+handled-one n request task place reply keyed (inr refused) is own = record {
+  keyed = keyed;
+  own = λ no. subst (λ (r : Reply). MatchOption (refusal_of all_classes request) (r ≡ NoMemory)
+      (λ refusal. r ≡ refusal))
+      (sym (own-reply n task place reply refused.reply is own refused.answered)) refused.cause;
 }
 
-pub handled-all : (told : Bool) (n : ℕ) (asked : List Request) (tasks : List Task)
-    (places : List Place) (merged : List Reply)
-    → AllByRecursion (λ request. IsSome (key_of request)) asked → AreTaken asked tasks
-    → ArePlaces n tasks places → HaveOwn places merged
-    → AllByRecursion (IsHandled told all_classes) (handled_by asked tasks merged)
-handled-all told n [] tasks places merged keyed taken are own = tt
-handled-all told n (q ∷ asked) [] places merged keyed taken are own = absurd taken
-handled-all told n (q ∷ asked) (t ∷ tasks) [] merged keyed taken are own = absurd are
-handled-all told n (q ∷ asked) (t ∷ tasks) (p ∷ places) [] keyed taken are own = absurd own
-handled-all told n (q ∷ asked) (t ∷ tasks) (p ∷ places) (r ∷ merged) keyed taken are own = (
-  handled-one told n q t p r keyed.0 taken.0 are.0 own.0,
-  handled-all told n asked tasks places merged keyed.1 taken.1 are.1 own.1,
+handled-all : (n : ℕ) (asked : List Request) (tasks : List Task) (places : List Place)
+    (merged : List Reply) → AllByRecursion (λ request. IsSome (key_of request)) asked
+    → AreTaken asked tasks → ArePlaces n tasks places → HaveOwn places merged
+    → AllByRecursion (IsHandled all_classes) (handled_by asked tasks merged)
+handled-all n [] tasks places merged keyed taken are own = tt
+handled-all n (q ∷ asked) [] places merged keyed taken are own = absurd taken
+handled-all n (q ∷ asked) (t ∷ tasks) [] merged keyed taken are own = absurd are
+handled-all n (q ∷ asked) (t ∷ tasks) (p ∷ places) [] keyed taken are own = absurd own
+handled-all n (q ∷ asked) (t ∷ tasks) (p ∷ places) (r ∷ merged) keyed taken are own = (
+  handled-one n q t p r keyed.0 taken.0 are.0 own.0,
+  handled-all n asked tasks places merged keyed.1 taken.1 are.1 own.1,
 )
 
 -- ---- a worker's message and answer
 
-asked-same : (seen : ℕ) (pairs : List Pair) → asked_by seen pairs ≡ asked_for seen (requests pairs)
+asked-same : (seen : ℕ) (pairs : List Pair) → asked_by seen pairs ≡ message_of seen (requests pairs)
 asked-same seen [] = refl
 asked-same seen (pair ∷ pairs) = refl
 
@@ -280,7 +247,7 @@ replied-same (pair ∷ pairs) = refl
 
 -- what came of the tasks of a worker is all of their replies, once they are here
 come-all : (mine : List Task) (coming : List (List Reply)) (part : Part)
-    → is_away part ≡ false → HasCome mine coming part
+    → is_away part ≡ false → StandsIn mine coming part
     → coming ≡ replied_for (replies_in (tasks_here part))
 come-all [] coming (Here tasks) here has =
     has.0 ∙ ap (λ (ts : List Task). replied_for (replies_in ts)) (sym has.1)
@@ -299,28 +266,41 @@ come-all (task ∷ mine) coming (Here tasks) here has =
 
 -- ---- stamps
 
-low-pairs : (high : ℕ) (asked : List Request) (merged : List Reply) → AreSeen high merged
-    → AllByRecursion (λ stamp. stamp ≤ high) (stamps (pairs_of asked merged))
-low-pairs high [] merged seen = tt
-low-pairs high (q ∷ asked) [] seen = tt
-low-pairs high (q ∷ asked) (r ∷ merged) seen = by (stamp_of r) seen.0
-  where
-    more : AllByRecursion (λ stamp. stamp ≤ high) (stamps (pairs_of asked merged))
-    more = low-pairs high asked merged seen.1
+pub AreTaken-length : (asked : List Request) (tasks : List Task) → AreTaken asked tasks
+    → length tasks ≡ length asked
+AreTaken-length [] [] taken = refl
+AreTaken-length [] (t ∷ tasks) taken = absurd taken
+AreTaken-length (q ∷ asked) [] taken = absurd taken
+AreTaken-length (q ∷ asked) (t ∷ tasks) taken = ap suc (AreTaken-length asked tasks taken.1)
 
-    by : (o : Option ℕ) → ((stamp : ℕ) → o ≡ Some stamp → stamp ≤ high)
-        → AllByRecursion (λ stamp. stamp ≤ high)
-        (cons_option o (stamps (pairs_of asked merged)))
-    by None low = more
-    by (Some stamp) low = (low stamp refl, more)
+stamps-pairs : (asked : List Request) (merged : List Reply) → length merged ≡ length asked
+    → stamps (pairs_of asked merged) ≡ filter_map stamp_of merged
+stamps-pairs [] [] size = refl
+stamps-pairs [] (r ∷ merged) size = absurd (omega (arith, size))
+stamps-pairs (q ∷ asked) [] size = refl
+stamps-pairs (q ∷ asked) (r ∷ merged) size =
+    ap (λ (ns : List ℕ). cons_option (stamp_of r) ns)
+    (stamps-pairs asked merged (omega (arith, size)))
 
-Pairwise-push : {X : Type 0} (R : X → X → Type 0) (xs : List X) (y : X) → Pairwise R xs
-    → AllByRecursion (λ x. R x y) xs → Pairwise R (xs ++ y ∷ [])
-Pairwise-push R [] y pairwise all = (tt, tt)
-Pairwise-push R (x ∷ xs) y pairwise all = (
-  All-append (R x) xs (y ∷ []) pairwise.0 (all.0, tt),
-  Pairwise-push R xs y pairwise.1 all.1,
+HaveSeen-push : (seen : ℕ) (exchanges : List Exchange) (last : Exchange) → HaveSeen seen exchanges
+    → last.seen ≡ seen_behind seen exchanges → HaveSeen seen (exchanges ++ last ∷ [])
+HaveSeen-push seen [] last have is = (is, tt)
+HaveSeen-push seen (e ∷ exchanges) last have is = (
+  have.0,
+  HaveSeen-push (greatest seen (stamps (exchange_pairs e))) exchanges last have.1 is,
 )
+
+seen-push : (seen : ℕ) (exchanges : List Exchange) (last : Exchange)
+    → seen_behind seen (exchanges ++ last ∷ [])
+    ≡ greatest (seen_behind seen exchanges) (stamps (exchange_pairs last))
+seen-push seen [] last = refl
+seen-push seen (e ∷ exchanges) last =
+    seen-push (greatest seen (stamps (exchange_pairs e))) exchanges last
+
+owed-none : {F : Type 0} (part : Part) (messages : List (Ask F)) (heard : List (Answer F))
+    → is_away part ≡ false → IsOwed part messages heard → length messages ≤ length heard
+owed-none (Here tasks) messages heard here owed = omega (arith, owed)
+owed-none (Away count) messages heard here owed = absurd (true≢false here)
 
 -- ---- the exchange
 
@@ -336,37 +316,44 @@ module _ {F : Type 0} (setting : Setting) (sent : ℕ → List (Ask F))
     (here : (worker : ℕ) → is_away (part_of routes.parts worker) ≡ false)
     (m : IsMerged routes.places
     (λ worker. replies_in (tasks_here (part_of routes.parts worker))) merged)
-    (up : seen ≤ high) (low : AreSeen high merged) (empty : IsEmpty after)
-    (size : length after.parts ≡ length routes.parts)
+    (up : high ≡ greatest seen (filter_map stamp_of merged)) (limit : high < 2 ^ 62)
+    (empty : IsEmpty after) (size : length after.parts ≡ length routes.parts)
     (k : Keeps setting sent received groups seen routes asked true) where
   abbrev n : ℕ
   n = setting.workers
 
   abbrev handled : List Handled
-  handled = handled_by asked k.pending.tasks merged
+  handled = handled_by asked k.way.tasks merged
 
   abbrev exchange : Exchange
   exchange = record { seen = seen; handled = handled }
 
   pairs-are : exchange_pairs exchange ≡ pairs_of asked merged
-  pairs-are = pairs-of n asked k.pending.tasks routes.places merged k.pending.taken
-      k.pending.places m.own
+  pairs-are = pairs-of n asked k.way.tasks routes.places merged k.way.taken k.way.places m.own
+
+  merged-size : length merged ≡ length asked
+  merged-size = HaveOwn-length routes.places merged m.own
+      ∙ ArePlaces-length n k.way.tasks routes.places k.way.places
+      ∙ AreTaken-length asked k.way.tasks k.way.taken
+
+  stamps-are : stamps (exchange_pairs exchange) ≡ filter_map stamp_of merged
+  stamps-are = ap stamps pairs-are ∙ stamps-pairs asked merged merged-size
 
   asks-all : (worker : ℕ) → worker < n
       → k.promise.asks.asking worker ≡ asked_by seen (pairs_for n worker handled)
-  asks-all worker lt = k.pending.asked_is worker lt
+  asks-all worker lt = k.way.asked_is worker lt
       ∙ sym (asked-same seen (pairs_for n worker handled)
-      ∙ ap (asked_for seen) (part-requests n worker asked k.pending.tasks routes.places merged
-      k.pending.taken k.pending.places m.own))
+      ∙ ap (message_of seen) (part-requests n worker asked k.way.tasks routes.places merged
+      k.way.taken k.way.places m.own))
 
   hears-all : (worker : ℕ) → worker < n
       → k.promise.asks.coming worker ≡ replied_by (pairs_for n worker handled)
-  hears-all worker lt = come-all (part_for n worker k.pending.tasks)
+  hears-all worker lt = come-all (part_for n worker k.way.tasks)
       (k.promise.asks.coming worker) (part_of routes.parts worker) (here worker)
-      (k.pending.came worker lt)
+      (k.way.came worker lt)
       ∙ sym (replied-same (pairs_for n worker handled)
-      ∙ ap replied_for (part-replies n worker asked k.pending.tasks routes.places merged
-      k.pending.taken k.pending.places m.own ∙ m.by_worker worker))
+      ∙ ap replied_for (part-replies n worker asked k.way.tasks routes.places merged
+      k.way.taken k.way.places m.own ∙ m.by_worker worker))
 
   abbrev asked-of : Exchange → ℕ → List Asked
   asked-of e worker = asked_by e.seen (pairs_for n worker e.handled)
@@ -374,62 +361,61 @@ module _ {F : Type 0} (setting : Setting) (sent : ℕ → List (Ask F))
   abbrev replied-of : Exchange → ℕ → List (List Reply)
   replied-of e worker = replied_by (pairs_for n worker e.handled)
 
-  low-all : AllByRecursion (λ e. AllByRecursion (λ stamp. stamp ≤ high) (stamps (exchange_pairs e)))
-      k.promise.asks.exchanges
-  low-all = All-map
-      (λ e. AllByRecursion (λ stamp. stamp ≤ seen) (stamps (exchange_pairs e)))
-      (λ e. AllByRecursion (λ stamp. stamp ≤ high) (stamps (exchange_pairs e)))
-      k.promise.asks.exchanges
-      (λ e all. All-map (λ stamp. stamp ≤ seen) (λ stamp. stamp ≤ high)
-      (stamps (exchange_pairs e)) (λ stamp le. omega (arith, le, up)) all) k.low
+  quiet-all : (worker : ℕ) → worker < n
+      → length (all_asking (sent worker)) ≤ length (k.promise.heard worker)
+  quiet-all worker lt = owed-none (part_of routes.parts worker) (all_asking (sent worker))
+      (k.promise.heard worker) (here worker) (k.way.owed worker lt)
 
   -- with the exchange behind the others
   keeps-more : Keeps setting sent received (groups ++ exchange_pairs exchange ∷ []) high after []
       false
   keeps-more = record {
     promise = record {
+      taken = k.promise.taken;
       heard = k.promise.heard;
-      part = k.promise.part;
+      hears = k.promise.hears;
       owed = k.promise.owed;
-      quiet = λ e worker lt. k.pending.paid worker lt (here worker);
+      quiet = λ e worker lt. quiet-all worker lt;
       asks = record {
         exchanges = k.promise.asks.exchanges ++ exchange ∷ [];
         asking = λ worker. [];
         coming = λ worker. [];
-        none = λ e worker lt. refl;
-        same = ap (λ gs. gs ++ exchange_pairs exchange ∷ []) k.promise.asks.same
+        same = ap (λ (gs : List (List Pair)). gs ++ exchange_pairs exchange ∷ [])
+            k.promise.asks.same
             ∙ sym (map-append exchange_pairs k.promise.asks.exchanges (exchange ∷ []));
         asks = λ worker lt. k.promise.asks.asks worker lt
-            ∙ ap (λ xs. all_asked n worker k.promise.asks.exchanges ++ xs) (asks-all worker lt
-            ∙ sym (append-nil (asked-of exchange worker)))
-            ∙ sym (flat_map-append (λ e. asked-of e worker) k.promise.asks.exchanges
-            (exchange ∷ []))
+            ∙ ap (λ (xs : List Asked). all_asked n worker k.promise.asks.exchanges ++ xs)
+            (asks-all worker lt ∙ sym (append-nil (asked-of exchange worker)))
+            ∙ sym (flat_map-append (λ (e : Exchange). asked-of e worker)
+            k.promise.asks.exchanges (exchange ∷ []))
             ∙ sym (append-nil (all_asked n worker (k.promise.asks.exchanges ++ exchange ∷ [])));
         hears = λ worker lt. k.promise.asks.hears worker lt
-            ∙ ap (λ xs. all_replied n worker k.promise.asks.exchanges ++ xs) (hears-all worker lt
-            ∙ sym (append-nil (replied-of exchange worker)))
-            ∙ sym (flat_map-append (λ e. replied-of e worker) k.promise.asks.exchanges
-            (exchange ∷ []))
+            ∙ ap (λ (xs : List (List Reply)).
+            all_replied n worker k.promise.asks.exchanges ++ xs)
+            (hears-all worker lt ∙ sym (append-nil (replied-of exchange worker)))
+            ∙ sym (flat_map-append (λ (e : Exchange). replied-of e worker)
+            k.promise.asks.exchanges (exchange ∷ []))
             ∙ sym (append-nil (all_replied n worker (k.promise.asks.exchanges ++ exchange ∷ [])));
-        seen = Pairwise-push (λ e next. AllByRecursion (λ stamp. stamp ≤ next.seen)
-            (stamps (exchange_pairs e))) k.promise.asks.exchanges exchange k.promise.asks.seen
-            k.low;
-        handled = All-append (λ e. AllByRecursion (IsHandled setting.told setting.layout)
+        seen = HaveSeen-push 0 k.promise.asks.exchanges exchange k.promise.asks.seen k.seen_is;
+        handled = All-append (λ (e : Exchange). AllByRecursion (IsHandled setting.layout)
             e.handled) k.promise.asks.exchanges (exchange ∷ []) k.promise.asks.handled (
-              subst (λ l. AllByRecursion (IsHandled setting.told l) handled) (sym layout)
-                  (handled-all setting.told n asked k.pending.tasks routes.places merged keyed
-                  k.pending.taken k.pending.places m.own),
+              subst (λ l. AllByRecursion (IsHandled l) handled) (sym layout)
+                  (handled-all n asked k.way.tasks routes.places merged keyed k.way.taken k.way.places
+                  m.own),
               tt,
             );
+        pending = record {
+          none = refl;
+          asks = λ worker lt. refl;
+          hears = λ worker lt. refl;
+        };
       };
     };
-    low = All-append (λ e. AllByRecursion (λ stamp. stamp ≤ high) (stamps (exchange_pairs e)))
-        k.promise.asks.exchanges (exchange ∷ []) low-all (
-          subst (λ pairs. AllByRecursion (λ stamp. stamp ≤ high) (stamps pairs)) (sym pairs-are)
-              (low-pairs high asked merged low),
-          tt,
-        );
-    pending = record { none = refl; unasked = λ worker lt. refl; empty = empty };
+    seen_is = up ∙ ap (greatest seen) (sym stamps-are)
+        ∙ ap (λ s. greatest s (stamps (exchange_pairs exchange))) k.seen_is
+        ∙ sym (seen-push 0 k.promise.asks.exchanges exchange);
+    limit = limit;
+    way = record { none = refl; empty = empty };
     size = size ∙ k.size;
   }
 
@@ -437,36 +423,47 @@ module _ {F : Type 0} (setting : Setting) (sent : ℕ → List (Ask F))
   keeps-none : handled ≡ [] → Keeps setting sent received groups high after [] false
   keeps-none nothing = record {
     promise = record {
+      taken = k.promise.taken;
       heard = k.promise.heard;
-      part = k.promise.part;
+      hears = k.promise.hears;
       owed = k.promise.owed;
-      quiet = λ e worker lt. k.pending.paid worker lt (here worker);
+      quiet = λ e worker lt. quiet-all worker lt;
       asks = record {
         exchanges = k.promise.asks.exchanges;
         asking = λ worker. [];
         coming = λ worker. [];
-        none = λ e worker lt. refl;
         same = k.promise.asks.same;
         asks = λ worker lt. k.promise.asks.asks worker lt
-            ∙ ap (λ xs. all_asked n worker k.promise.asks.exchanges ++ xs) (asks-all worker lt
-            ∙ ap (λ hs. asked_by seen (pairs_for n worker hs)) nothing);
+            ∙ ap (λ (xs : List Asked). all_asked n worker k.promise.asks.exchanges ++ xs)
+            (asks-all worker lt
+            ∙ ap (λ (hs : List Handled). asked_by seen (pairs_for n worker hs)) nothing);
         hears = λ worker lt. k.promise.asks.hears worker lt
-            ∙ ap (λ xs. all_replied n worker k.promise.asks.exchanges ++ xs) (hears-all worker lt
-            ∙ ap (λ hs. replied_by (pairs_for n worker hs)) nothing);
+            ∙ ap (λ (xs : List (List Reply)).
+            all_replied n worker k.promise.asks.exchanges ++ xs)
+            (hears-all worker lt
+            ∙ ap (λ (hs : List Handled). replied_by (pairs_for n worker hs)) nothing);
         seen = k.promise.asks.seen;
         handled = k.promise.asks.handled;
+        pending = record {
+          none = refl;
+          asks = λ worker lt. refl;
+          hears = λ worker lt. refl;
+        };
       };
     };
-    low = low-all;
-    pending = record { none = refl; unasked = λ worker lt. refl; empty = empty };
+    seen_is = up ∙ ap (greatest seen) (sym stamps-are)
+        ∙ ap (λ (hs : List Handled). greatest seen (stamps (map (λ (x : Handled). x.pair) hs)))
+        nothing ∙ k.seen_is;
+    limit = limit;
+    way = record { none = refl; empty = empty };
     size = size ∙ k.size;
   }
 
   by-pairs : (pairs : List Pair) → exchange_pairs exchange ≡ pairs
       → Keeps setting sent received (with_pairs groups pairs) high after [] false
   by-pairs [] e = keeps-none (map-none (λ (x : Handled). x.pair) handled e)
-  by-pairs (pair ∷ pairs) e =
-      subst (λ ps. Keeps setting sent received (groups ++ ps ∷ []) high after [] false) e keeps-more
+  by-pairs (pair ∷ pairs) e = subst (λ (ps : List Pair).
+      Keeps setting sent received (groups ++ ps ∷ []) high after [] false) e keeps-more
 
   -- the group of these requests and its replies are an exchange more, unless it is empty
   pub keeps-merged : Keeps setting sent received (with_pairs groups (pairs_of asked merged)) high

@@ -1,64 +1,138 @@
 -- What a session promises, as its rings and its group go on.
-use Rattle.std.proofs.Common.{◌≡◌, ◌⊎◌, inl, inr, ℕ, zero, suc, ◌+◌, ◌<◌, ◌≤◌, List, [], ◌∷◌, ◌++◌}
+use Rattle.std.proofs.Common.{◌≡◌, ◌⊎◌, inl, inr, ℕ, zero, suc, ◌+◌, ◌<◌, ◌≤◌, ◌^◌, List, [], ◌∷◌, ◌++◌}
 use Rattle.std.proofs.Common.{length, map, Option, None, Some, Bool, true, false, cond, nat_eq, refl}
 use Rattle.std.proofs.Common.{sym, ap, ◌∙◌, subst, subst₂, arith, append_assoc, length-append}
-use Rattle.std.specs.Prelude.{◌&&◌, option_to_list}
+use Rattle.std.specs.Prelude.{◌&&◌, not, is_some, filter, option_to_list}
 use Rattle.std.specs.List.{AllByRecursion, flat_map}
-use Rattle.std.proofs.lemmas.Bool.{true≢false}
+use Rattle.std.proofs.lemmas.Bool.{true≢false, false≢true}
 use Rattle.std.proofs.lemmas.Bool.Decides.{nat_tests}
-use Rattle.std.proofs.lemmas.List.{append-nil, map-append}
+use Rattle.std.proofs.lemmas.List.{append-nil, map-append, length-map}
 use Rattle.std.proofs.lemmas.Grind.{flat_map-append}
 use Rattle.kv_base.specs.Reserved.{Reserved}
 use Rattle.kv_base.specs.declared.reply.Reply.{Reply}
 use Rattle.kv_base.specs.declared.request.Request.{Request}
-use Rattle.kv_model.specs.Pairs.{Pair}
-use Rattle.kv_parties.specs.Groups.{replies_of}
-use Rattle.kv_parties.specs.Messages.{IsPartOf, all_asking, asking, groups_in, group_of}
+use Rattle.kv_model.proofs.PairwiseLemmas.{All-append}
+use Rattle.kv_model.specs.Layout.{all_classes}
+use Rattle.kv_model.specs.Pairs.{Pair, key_of}
+use Rattle.kv_parties.specs.Groups.{Asked, replies_of}
+use Rattle.kv_parties.specs.Messages.{all_asking, asking, groups_in, group_of}
 use Rattle.kv_parties.specs.Messages.{answered_in, answered_of}
-use Rattle.kv_parties.specs.Promises.{SessionPromise}
 use Rattle.kv_parties.specs.Sessions.{all_asked, all_replied}
-use Rattle.kv_parties.specs.Setting.{Setting}
+use Rattle.kv_parties.specs.Setting.{Setting, owns}
 use Rattle.kv_ring.specs.declared.message.Answer.{Answer}
 use Rattle.kv_ring.specs.declared.message.Answer.TheVariants as answer
 use Rattle.kv_ring.specs.declared.message.Ask.{Ask}
 use Rattle.kv_ring.specs.declared.message.Ask.TheVariants as ask
 use Rattle.kv_ring.specs.declared.task.Task.{Task}
 use Rattle.kv_ring.specs.Tasks.{requests_of}
+use Rattle.kv_session.specs.Tasks.{AreTaken, GoesOn, IsRefused}
+use Rattle.kv_session_party.specs.Asking.{SessionPromise, IsUnderWay, Sent, HasCome, IsReplied, Hears}
+use Rattle.kv_session_party.specs.Asking.{IsAnswerTo, takes_message, message_of, asked_of, was_asked}
+use Rattle.kv_session_party.specs.Asking.{seen_behind}
 use Rattle.kv_session_party.specs.Exchanges.{part_behind_came, message_for}
-use Rattle.kv_session_party.specs.Promise.{Keeps, HasCome, asked_for}
-use Rattle.kv_session_party.specs.Routes.{RoutesState, ArePlaces, IsReplied, part_of, part_for, part_with}
+use Rattle.kv_session_party.specs.Promise.{Keeps, StandsIn, IsOwed, AwaitsLast, IsOnWay}
+use Rattle.kv_session_party.specs.Routes.{RoutesState, ArePlaces, part_of, part_for, part_with, goes_to}
 use Rattle.kv_session_party.specs.Routes.{IsRouted, HasTasks, tasks_out, some_tasks, part_out, part_behind}
 use Rattle.kv_session_party.specs.Routes.{part_after, is_taken, is_away, tasks_here, answers_all}
-use Rattle.kv_session_party.specs.Routes.{all_fitting, replies_in}
+use Rattle.kv_session_party.specs.Routes.{have_replies, replies_in}
 use Rattle.kv_session_party.specs.declared.part.Part.{Part}
 use Rattle.kv_session_party.specs.declared.part.Part.TheVariants.{Here, Away}
 use Rattle.kv_session_party.specs.declared.routes.Place.{Place}
-use Rattle.kv_session.specs.Tasks.{AreTaken}
+use Rattle.kv_session_party.proofs.HearingLemmas.{Hears-more, Hears-length, Hears-taken, Hears-passed}
+use Rattle.kv_session_party.proofs.PartLemmas.{replied-all, replies-length}
+use Rattle.kv_session_party.proofs.TakingLemmas.{takes-group}
 
--- ---- parts of lists
+-- ---- the group under way, as the promise has it
 
-pub part-refl : {X : Type 0} (xs : List X) → IsPartOf xs xs
-part-refl [] = tt
-part-refl (x ∷ xs) = inl (refl, part-refl xs)
+-- each request, and whether it goes to a worker
+abbrev pub sent_by : List Request → List Task → List Sent
+sent_by [] tasks = []
+sent_by (request ∷ asked) [] = []
+sent_by (request ∷ asked) (task ∷ tasks) = record {
+  request = request;
+  routed = not (is_some task.reply);
+} ∷ sent_by asked tasks
 
--- one element more, in both
-pub part-both : {X : Type 0} (xs ys : List X) (y : X) → IsPartOf xs ys
-    → IsPartOf (xs ++ y ∷ []) (ys ++ y ∷ [])
-part-both [] [] y part = inl (refl, tt)
-part-both [] (z ∷ ys) y part = inr (part-both [] ys y tt)
-part-both (x ∷ xs) [] y part = absurd part
-part-both (x ∷ xs) (z ∷ ys) y (inl same) = inl (same.0, part-both xs ys y same.1)
-part-both (x ∷ xs) (z ∷ ys) y (inr later) = inr (part-both (x ∷ xs) ys y later)
+sent-same : (asked : List Request) (tasks : List Task) → AreTaken asked tasks
+    → asked ≡ map (λ (s : Sent). s.request) (sent_by asked tasks)
+sent-same [] tasks taken = refl
+sent-same (q ∷ asked) [] taken = absurd taken
+sent-same (q ∷ asked) (t ∷ tasks) taken =
+    ap (λ (qs : List Request). q ∷ qs) (sent-same asked tasks taken.1)
 
--- one element more is passed over
-pub part-passed : {X : Type 0} (xs ys : List X) (y : X) → IsPartOf xs ys
-    → IsPartOf xs (ys ++ y ∷ [])
-part-passed [] ys y part = tt
-part-passed (x ∷ xs) [] y part = absurd part
-part-passed (x ∷ xs) (z ∷ ys) y (inl same) = inl (same.0, part-passed xs ys y same.1)
-part-passed (x ∷ xs) (z ∷ ys) y (inr later) = inr (part-passed (x ∷ xs) ys y later)
+-- the request was sent to the worker where its task goes to it
+was-goes : (n worker : ℕ) (request : Request) (task : Task)
+    → GoesOn request task ⊎ IsRefused request task → was_asked n worker (record {
+      request = request;
+      routed = not (is_some task.reply);
+    }) ≡ goes_to n worker task
+was-goes n worker request task (inl on) = ap (λ (r : Request).
+    not (is_some task.reply) && owns n worker (key_of r)) (sym on.request_is)
+was-goes n worker request task (inr refused) =
+    ap (λ (o : Option Reply). not (is_some o) && owns n worker (key_of request)) refused.answered
+    ∙ sym (ap (λ (o : Option Reply). not (is_some o) && owns n worker (key_of task.request))
+    refused.answered)
+
+-- the request of a task that goes to a worker
+pub task-request : (n worker : ℕ) (request : Request) (task : Task)
+    → GoesOn request task ⊎ IsRefused request task → goes_to n worker task ≡ true
+    → request ≡ task.request
+task-request n worker request task (inl on) yes = sym on.request_is
+task-request n worker request task (inr refused) yes = absurd (false≢true
+    (sym (ap (λ (o : Option Reply). not (is_some o) && owns n worker (key_of task.request))
+    refused.answered) ∙ yes))
+
+asked-part : (n worker : ℕ) (asked : List Request) (tasks : List Task) → AreTaken asked tasks
+    → asked_of n worker (sent_by asked tasks) ≡ requests_of (part_for n worker tasks)
+asked-part n worker [] [] taken = refl
+asked-part n worker [] (t ∷ tasks) taken = absurd taken
+asked-part n worker (q ∷ asked) [] taken = absurd taken
+asked-part n worker (q ∷ asked) (t ∷ tasks) taken =
+    let s : Sent = record { request = q; routed = not (is_some t.reply) } in
+    let rest : List Sent = filter (was_asked n worker) (sent_by asked tasks) in
+    let more = asked-part n worker asked tasks taken.1 in
+    ap (λ b. map (λ (x : Sent). x.request) (cond b (s ∷ rest) rest))
+    (was-goes n worker q t taken.0)
+    ∙ (elim (goes_to n worker t) as (λ b. goes_to n worker t ≡ b
+    → map (λ (x : Sent). x.request) (cond b (s ∷ rest) rest)
+    ≡ requests_of (cond b (t ∷ part_for n worker tasks) (part_for n worker tasks))) [
+      | true ↦ λ yes. ap (λ (x : Request). x ∷ map (λ (x : Sent). x.request) rest)
+          (task-request n worker q t taken.0 yes)
+          ∙ ap (λ (xs : List Request). t.request ∷ xs) more
+      | false ↦ λ no. more
+    ]) refl
+
+come-part : (items : List Task) (coming : List (List Reply)) (part : Part)
+    → StandsIn items coming part → HasCome (requests_of items) coming
+come-part [] coming part stands = stands.0
+come-part (task ∷ items) coming (Away count) stands = inl stands.0
+come-part (task ∷ items) coming (Here answer) stands =
+    let size = replies-length answer.items stands.2 in
+    let many = length-map items (λ (t : Task). t.request) in
+    let all = stands.1 in
+    inr (replies_in answer.items, stands.0, omega (arith, size, many, all))
 
 module _ {F : Type 0} where
+  -- what is kept of the group gives what the promise says of it
+  pub under-way : (setting : Setting) (seen high : ℕ) (sent : ℕ → List (Ask F))
+      (heard : ℕ → List (Answer F)) (asking : ℕ → List Asked) (coming : ℕ → List (List Reply))
+      (routes : RoutesState) (asked : List Request) → seen ≡ high
+      → IsOnWay setting seen sent heard asking coming routes asked
+      → IsUnderWay setting high asked asking coming
+  under-way setting seen high sent heard asking coming routes asked same w =
+      let n : ℕ = setting.workers in
+      record {
+        sent = sent_by asked w.tasks;
+        same = sent-same asked w.tasks w.taken;
+        asks = λ worker lt. w.asked_is worker lt
+            ∙ ap (λ s. message_of s (requests_of (part_for n worker w.tasks))) same
+            ∙ ap (message_of high) (sym (asked-part n worker asked w.tasks w.taken));
+        hears = λ worker lt. subst (λ (qs : List Request). HasCome qs (coming worker))
+            (sym (asked-part n worker asked w.tasks w.taken))
+            (come-part (part_for n worker w.tasks) (coming worker) (part_of routes.parts worker)
+            (w.came worker lt));
+      }
+
   -- ---- messages
 
   pub groups-bye : (sent : List (Ask F)) → groups_in (sent ++ ask.Bye ∷ []) ≡ groups_in sent
@@ -91,14 +165,19 @@ module _ {F : Type 0} where
   }
 
   pub promise-same : (setting : Setting) (sent later : ℕ → List (Ask F))
-      (received now : ℕ → List (Answer F)) (groups : List (List Pair)) (waiting : Bool)
-      → TellsSame setting.workers sent later
+      (received now : ℕ → List (Answer F)) (groups : List (List Pair)) (asked : List Request)
+      (waiting : Bool) → TellsSame setting.workers sent later
       → ((worker : ℕ) → now worker ≡ received worker)
-      → SessionPromise setting sent received groups waiting
-      → SessionPromise setting later now groups waiting
-  promise-same setting sent later received now groups waiting told heard p = record {
+      → SessionPromise setting sent received groups asked waiting
+      → SessionPromise setting later now groups asked waiting
+  promise-same setting sent later received now groups asked waiting told heard p = record {
+    taken = λ worker lt. subst (AllByRecursion (λ message.
+        takes_message setting.layout worker setting.workers message ≡ true))
+        (sym (told.asking worker lt)) (p.taken worker lt);
     heard = p.heard;
-    part = λ worker lt. subst (IsPartOf (p.heard worker)) (sym (heard worker)) (p.part worker lt);
+    hears = λ worker lt. subst₂ (λ (ms : List (Ask F)) (xs : List (Answer F)).
+        Hears ms xs (p.heard worker)) (sym (told.asking worker lt)) (sym (heard worker))
+        (p.hears worker lt);
     owed = λ worker lt. subst (λ (xs : List (Ask F)). length xs ≤ length (p.heard worker) + 1)
         (sym (told.asking worker lt)) (p.owed worker lt);
     quiet = λ e worker lt. subst (λ (xs : List (Ask F)). length xs ≤ length (p.heard worker))
@@ -107,12 +186,12 @@ module _ {F : Type 0} where
       exchanges = p.asks.exchanges;
       asking = p.asks.asking;
       coming = p.asks.coming;
-      none = p.asks.none;
       same = p.asks.same;
       asks = λ worker lt. told.groups worker lt ∙ p.asks.asks worker lt;
       hears = p.asks.hears;
       seen = p.asks.seen;
       handled = p.asks.handled;
+      pending = p.asks.pending;
     };
   }
 
@@ -124,24 +203,26 @@ module _ {F : Type 0} where
       → Keeps setting sent received groups seen routes asked waiting
       → Keeps setting later now groups seen routes asked waiting
   keeps-same setting sent later received now groups seen routes asked true told heard k = record {
-    promise = promise-same setting sent later received now groups true told heard k.promise;
-    low = k.low;
-    pending = record {
-      tasks = k.pending.tasks;
-      taken = k.pending.taken;
-      places = k.pending.places;
-      asked_is = k.pending.asked_is;
-      came = k.pending.came;
-      paid = λ worker lt here. subst (λ (xs : List (Ask F)).
-          length xs ≤ length (k.promise.heard worker)) (sym (told.asking worker lt))
-          (k.pending.paid worker lt here);
+    promise = promise-same setting sent later received now groups asked true told heard k.promise;
+    seen_is = k.seen_is;
+    limit = k.limit;
+    way = record {
+      tasks = k.way.tasks;
+      taken = k.way.taken;
+      places = k.way.places;
+      asked_is = k.way.asked_is;
+      came = k.way.came;
+      owed = λ worker lt. subst (λ (ms : List (Ask F)).
+          IsOwed (part_of routes.parts worker) ms (k.promise.heard worker))
+          (sym (told.asking worker lt)) (k.way.owed worker lt);
     };
     size = k.size;
   }
   keeps-same setting sent later received now groups seen routes asked false told heard k = record {
-    promise = promise-same setting sent later received now groups false told heard k.promise;
-    low = k.low;
-    pending = k.pending;
+    promise = promise-same setting sent later received now groups asked false told heard k.promise;
+    seen_is = k.seen_is;
+    limit = k.limit;
+    way = k.way;
     size = k.size;
   }
 
@@ -152,26 +233,12 @@ module _ {F : Type 0} where
   taken_of part None = []
   taken_of part (Some answer) = cond (is_taken part answer) (answer ∷ []) []
 
-  -- what was heard is still a part of what was received
-  part-came : (part : Part) (came : Option (Answer F)) (heard received : List (Answer F))
-      → IsPartOf heard received
-      → IsPartOf (heard ++ taken_of part came) (received ++ option_to_list came)
-  part-came part None heard received is =
-      subst₂ (λ (xs ys : List (Answer F)). IsPartOf xs ys) (sym (append-nil heard))
-      (sym (append-nil received)) is
-  part-came part (Some answer) heard received is = elim (is_taken part answer) as (λ b.
-      IsPartOf (heard ++ cond b (answer ∷ []) []) (received ++ answer ∷ [])) [
-        | true ↦ part-both heard received answer is
-        | false ↦ subst (λ (xs : List (Answer F)). IsPartOf xs (received ++ answer ∷ []))
-            (sym (append-nil heard)) (part-passed heard received answer is)
-      ]
-
   -- an answer that isn't taken changes nothing
   passed-has : (mine : List Task) (coming : List (List Reply)) (part later : Part)
-      (answer : Answer F) → later ≡ part → is_taken part answer ≡ false → HasCome mine coming part
-      → HasCome mine (coming ++ replies_of (answered_in (taken_of part (Some answer)))) later
+      (answer : Answer F) → later ≡ part → is_taken part answer ≡ false → StandsIn mine coming part
+      → StandsIn mine (coming ++ replies_of (answered_in (taken_of part (Some answer)))) later
   passed-has mine coming part later answer is no has =
-      subst₂ (λ (xs : List (List Reply)) (p : Part). HasCome mine xs p)
+      subst₂ (λ (xs : List (List Reply)) (p : Part). StandsIn mine xs p)
       (sym (ap (λ b. coming ++ replies_of (answered_in (cond b (answer ∷ []) []))) no
       ∙ append-nil coming)) (sym is) has
 
@@ -186,12 +253,12 @@ module _ {F : Type 0} where
   away-has : (task : Task) (mine : List Task) (coming : List (List Reply)) (count : ℕ) (later : Part)
       (tasks : Reserved Task) → later ≡ part_with tasks (Away count)
       → (answers_all count tasks.items ≡ true → AllByRecursion IsReplied (tasks_here later))
-      → HasCome (task ∷ mine) coming (Away count)
-      → HasCome (task ∷ mine)
+      → StandsIn (task ∷ mine) coming (Away count)
+      → StandsIn (task ∷ mine)
       (coming ++ replies_of (answered_in (taken_of (Away count) (Some (answer.Group tasks))))) later
   away-has task mine coming count later tasks is replied has =
       (elim (answers_all count tasks.items) as (λ b. answers_all count tasks.items ≡ b
-      → HasCome (task ∷ mine) (coming
+      → StandsIn (task ∷ mine) (coming
       ++ replies_of (answered_in (cond b (answer.Group tasks ∷ []) []))) later) [
         | true ↦ λ yes.
             let here : later ≡ Here tasks = is ∙ ap (λ b. cond b (Here tasks) (Away count)) yes in
@@ -199,23 +266,23 @@ module _ {F : Type 0} where
             subst (λ p. AllByRecursion IsReplied (tasks_here p)) here (replied yes) in
             let size : length tasks.items ≡ count =
             eq-of (length tasks.items) count (both-of (nat_eq (length tasks.items) count)
-            (all_fitting tasks.items) yes) in
-            subst (λ p. HasCome (task ∷ mine) (coming ++ replies_in tasks.items ∷ []) p) (sym here) (
+            (have_replies tasks.items) yes) in
+            subst (λ p. StandsIn (task ∷ mine) (coming ++ replies_in tasks.items ∷ []) p) (sym here) (
               ap (λ (xs : List (List Reply)). xs ++ replies_in tasks.items ∷ []) has.0,
               size ∙ has.1,
               items,
             )
         | false ↦ λ no.
             let away : later ≡ Away count = is ∙ ap (λ b. cond b (Here tasks) (Away count)) no in
-            subst₂ (λ (xs : List (List Reply)) (p : Part). HasCome (task ∷ mine) xs p)
+            subst₂ (λ (xs : List (List Reply)) (p : Part). StandsIn (task ∷ mine) xs p)
             (sym (append-nil coming)) (sym away) has
       ]) refl
 
   come-answer : (mine : List Task) (coming : List (List Reply)) (part later : Part)
       (answer : Answer F) → later ≡ part_after part answer
       → (is_taken part answer ≡ true → AllByRecursion IsReplied (tasks_here later))
-      → HasCome mine coming part
-      → HasCome mine (coming ++ replies_of (answered_in (taken_of part (Some answer)))) later
+      → StandsIn mine coming part
+      → StandsIn mine (coming ++ replies_of (answered_in (taken_of part (Some answer)))) later
   come-answer mine coming part later (answer.Ready highest) is replied has =
       passed-has mine coming part later (answer.Ready highest) is refl has
   come-answer mine coming part later (answer.Share fold) is replied has =
@@ -235,38 +302,111 @@ module _ {F : Type 0} where
       (came : Option (Answer F)) → later ≡ part_behind_came part came
       → ((answer : Answer F) → came ≡ Some answer → is_taken part answer ≡ true
       → AllByRecursion IsReplied (tasks_here later))
-      → HasCome mine coming part
-      → HasCome mine (coming ++ replies_of (answered_in (taken_of part came))) later
+      → StandsIn mine coming part
+      → StandsIn mine (coming ++ replies_of (answered_in (taken_of part came))) later
   come-more mine coming part later None is replied has =
-      subst₂ (λ (xs : List (List Reply)) (p : Part). HasCome mine xs p) (sym (append-nil coming))
+      subst₂ (λ (xs : List (List Reply)) (p : Part). StandsIn mine xs p) (sym (append-nil coming))
       (sym is) has
   come-more mine coming part later (Some answer) is replied has =
       come-answer mine coming part later answer is (replied answer refl) has
 
-  -- a worker whose tasks are here is owed nothing
-  paid-more : (part later : Part) (came : Option (Answer F)) (asked heard : ℕ)
-      → later ≡ part_behind_came part came → (is_away part ≡ false → asked ≤ heard)
-      → asked ≤ heard + 1 → is_away later ≡ false
-      → asked ≤ heard + length (taken_of part came)
-  paid-more (Here items) later came asked heard is paid owed here =
-      let was = paid refl in omega (arith, was)
-  paid-more (Away count) later None asked heard is paid owed here =
-      absurd (true≢false (sym (ap is_away is) ∙ here))
-  paid-more (Away count) later (Some (answer.Ready highest)) asked heard is paid owed here =
-      absurd (true≢false (sym (ap is_away is) ∙ here))
-  paid-more (Away count) later (Some (answer.Share fold)) asked heard is paid owed here =
-      absurd (true≢false (sym (ap is_away is) ∙ here))
-  paid-more (Away count) later (Some (answer.Refused why)) asked heard is paid owed here =
-      absurd (true≢false (sym (ap is_away is) ∙ here))
-  paid-more (Away count) later (Some answer.Dropped) asked heard is paid owed here =
-      absurd (true≢false (sym (ap is_away is) ∙ here))
-  paid-more (Away count) later (Some (answer.Group tasks)) asked heard is paid owed here =
-      (elim (answers_all count tasks.items) as (λ b.
-      later ≡ cond b (Here tasks) (Away count)
-      → asked ≤ heard + length (cond b (answer.Group {F = F} tasks ∷ []) [])) [
-        | true ↦ λ e. omega (arith, owed)
-        | false ↦ λ e. absurd (true≢false (sym (ap is_away e) ∙ here))
+  -- ---- what is owed
+
+  -- an answer that isn't taken is none to the message
+  not-taken : (count seen : ℕ) (tasks : Reserved Task) (answer : Answer F)
+      → length tasks.items ≡ count → is_taken (Away count) answer ≡ false
+      → IsAnswerTo (ask.Group seen tasks) answer → ⊥
+  not-taken count seen tasks (answer.Group replied) many no is =
+      true≢false (sym (replied-all count replied.items (is.0 ∙ many) is.1) ∙ no)
+  not-taken count seen tasks (answer.Ready highest) many no is = is
+  not-taken count seen tasks (answer.Share fold) many no is = is
+  not-taken count seen tasks (answer.Refused why) many no is = is
+  not-taken count seen tasks answer.Dropped many no is = is
+
+  -- what came is heard, or passed over
+  hears-came : (part : Part) (came : Option (Answer F)) (messages : List (Ask F))
+      (received heard : List (Answer F)) → (is_away part ≡ false → came ≡ None)
+      → IsOwed part messages heard → Hears messages received heard
+      → Hears messages (received ++ option_to_list came) (heard ++ taken_of part came)
+  hears-came part None messages received heard none owed hears =
+      subst₂ (λ (xs ys : List (Answer F)). Hears messages xs ys) (sym (append-nil received))
+      (sym (append-nil heard)) hears
+  hears-came (Here tasks) (Some answer) messages received heard none owed hears =
+      let nothing = none refl in absurd (cc)
+  hears-came (Away count) (Some answer) messages received heard none owed hears =
+      let last : Ask F = ask.Group owed.seen owed.tasks in
+      subst (λ (ms : List (Ask F)). Hears ms (received ++ answer ∷ [])
+      (heard ++ taken_of (Away count) (Some answer))) (sym owed.messages_are)
+      (let was = subst (λ (ms : List (Ask F)). Hears ms received heard) owed.messages_are hears in
+      (elim (is_taken (Away count) answer) as (λ b. is_taken (Away count) answer ≡ b
+      → Hears (owed.earlier ++ last ∷ []) (received ++ answer ∷ [])
+      (heard ++ cond b (answer ∷ []) [])) [
+        | true ↦ λ yes. Hears-taken owed.earlier last received heard answer owed.heard_all was
+        | false ↦ λ no. subst (λ (xs : List (Answer F)).
+            Hears (owed.earlier ++ last ∷ []) (received ++ answer ∷ []) xs)
+            (sym (append-nil heard)) (Hears-passed owed.earlier last received heard answer
+            (not-taken count owed.seen owed.tasks answer owed.many no) owed.heard_all was)
+      ]) refl)
+
+  awaits-more : (count : ℕ) (messages : List (Ask F)) (heard : List (Answer F)) (later : Part)
+      (answer : Answer F) → later ≡ cond (is_taken (Away count) answer) later (Away count)
+      → (is_taken (Away count) answer ≡ true → is_away later ≡ false)
+      → AwaitsLast count messages heard
+      → IsOwed later messages (heard ++ taken_of (Away count) (Some answer))
+  awaits-more count messages heard later answer is here owed =
+      (elim (is_taken (Away count) answer) as (λ b. is_taken (Away count) answer ≡ b
+      → later ≡ cond b later (Away count)
+      → IsOwed later messages (heard ++ cond b (answer ∷ []) [])) [
+        | true ↦ λ yes same. paid later (here yes)
+        | false ↦ λ no same. subst₂ (λ (p : Part) (xs : List (Answer F)). IsOwed p messages xs)
+            (sym same) (sym (append-nil heard)) owed
+      ]) refl is
+    where
+      paid : (later : Part) → is_away later ≡ false → IsOwed later messages (heard ++ answer ∷ [])
+      paid (Here tasks) e =
+          let size = ap length owed.messages_are in
+          let sum = length-append owed.earlier (ask.Group owed.seen owed.tasks ∷ []) in
+          let more = length-append heard (answer ∷ []) in
+          let all = owed.heard_all in
+          omega (arith, size, sum, more, all)
+      paid (Away other) e = absurd (true≢false e)
+
+  after-not : (count : ℕ) (later : Part) (answer : Answer F)
+      → later ≡ part_after (Away count) answer
+      → later ≡ cond (is_taken (Away count) answer) later (Away count)
+  after-not count later (answer.Ready highest) is = is
+  after-not count later (answer.Share fold) is = is
+  after-not count later (answer.Refused why) is = is
+  after-not count later answer.Dropped is = is
+  after-not count later (answer.Group tasks) is =
+      (elim (answers_all count tasks.items) as (λ b. later ≡ cond b (Here tasks) (Away count)
+      → later ≡ cond b later (Away count)) [
+        | true ↦ λ e. refl
+        | false ↦ λ e. e
       ]) is
+
+  after-here : (count : ℕ) (later : Part) (answer : Answer F)
+      → later ≡ part_after (Away count) answer → is_taken (Away count) answer ≡ true
+      → is_away later ≡ false
+  after-here count later (answer.Ready highest) is yes = absurd (false≢true yes)
+  after-here count later (answer.Share fold) is yes = absurd (false≢true yes)
+  after-here count later (answer.Refused why) is yes = absurd (false≢true yes)
+  after-here count later answer.Dropped is yes = absurd (false≢true yes)
+  after-here count later (answer.Group tasks) is yes =
+      ap is_away (is ∙ ap (λ b. cond b (Here tasks) (Away count)) yes)
+
+  owed-more : (part later : Part) (came : Option (Answer F)) (messages : List (Ask F))
+      (heard : List (Answer F)) → later ≡ part_behind_came part came
+      → (is_away part ≡ false → came ≡ None) → IsOwed part messages heard
+      → IsOwed later messages (heard ++ taken_of part came)
+  owed-more part later None messages heard is none owed =
+      subst₂ (λ (p : Part) (xs : List (Answer F)). IsOwed p messages xs) (sym is)
+      (sym (append-nil heard)) owed
+  owed-more (Here tasks) later (Some answer) messages heard is none owed =
+      let nothing = none refl in absurd (cc)
+  owed-more (Away count) later (Some answer) messages heard is none owed =
+      awaits-more count messages heard later answer (after-not count later answer is)
+      (after-here count later answer is) owed
 
   -- answers came, and those that are taken stand in their parts
   pub keeps-received : (setting : Setting) (sent later : ℕ → List (Ask F))
@@ -279,33 +419,54 @@ module _ {F : Type 0} where
       → ((worker : ℕ) (answer : Answer F) → came worker ≡ Some answer
       → is_taken (part_of routes.parts worker) answer ≡ true
       → AllByRecursion IsReplied (tasks_here (part_of after.parts worker)))
+      → ((worker : ℕ) → is_away (part_of routes.parts worker) ≡ false → came worker ≡ None)
       → after.places ≡ routes.places → length after.parts ≡ length routes.parts
       → Keeps setting sent received groups seen routes asked true
       → Keeps setting later now groups seen after asked true
   keeps-received setting sent later received now groups seen routes after asked came told heard
-      parts replied places size k =
+      parts replied unasked places size k =
       let p = k.promise in
-      let u = k.pending in
+      let u = k.way in
       let new : ℕ → List (Answer F) = λ w. taken_of (part_of routes.parts w) (came w) in
       let longer : (w : ℕ) → length (p.heard w ++ new w) ≡ length (p.heard w) + length (new w) =
       λ w. length-append (p.heard w) (new w) in
-      let asking_is : (w : ℕ) → length (all_asking (later w)) ≡ length (all_asking (sent w)) =
-      λ w. ap (λ (xs : List (Ask F)). length (all_asking xs)) (told w) in
+      let messages_are : (w : ℕ) → all_asking (later w) ≡ all_asking (sent w) =
+      λ w. ap all_asking (told w) in
+      let coming : ℕ → List (List Reply) = λ w.
+      p.asks.coming w ++ replies_of (answered_in (new w)) in
+      let way : IsOnWay setting seen later (λ w. p.heard w ++ new w) p.asks.asking coming after
+      asked = record {
+        tasks = u.tasks;
+        taken = u.taken;
+        places = subst (ArePlaces setting.workers u.tasks) (sym places) u.places;
+        asked_is = u.asked_is;
+        came = λ w lt. come-more (part_for setting.workers w u.tasks) (p.asks.coming w)
+            (part_of routes.parts w) (part_of after.parts w) (came w) (parts w) (replied w)
+            (u.came w lt);
+        owed = λ w lt. subst (λ (ms : List (Ask F)).
+            IsOwed (part_of after.parts w) ms (p.heard w ++ new w)) (sym (messages_are w))
+            (owed-more (part_of routes.parts w) (part_of after.parts w) (came w)
+            (all_asking (sent w)) (p.heard w) (parts w) (unasked w) (u.owed w lt));
+      } in
       record {
         promise = record {
+          taken = λ w lt. subst (AllByRecursion (λ message.
+              takes_message setting.layout w setting.workers message ≡ true))
+              (sym (messages_are w)) (p.taken w lt);
           heard = λ w. p.heard w ++ new w;
-          part = λ w lt. subst (λ (xs : List (Answer F)). IsPartOf (p.heard w ++ new w) xs)
-              (sym (heard w)) (part-came (part_of routes.parts w) (came w) (p.heard w)
-              (received w) (p.part w lt));
+          hears = λ w lt. subst₂ (λ (ms : List (Ask F)) (xs : List (Answer F)).
+              Hears ms xs (p.heard w ++ new w)) (sym (messages_are w)) (sym (heard w))
+              (hears-came (part_of routes.parts w) (came w) (all_asking (sent w)) (received w)
+              (p.heard w) (unasked w) (u.owed w lt) (p.hears w lt));
           owed = λ w lt.
-              let was = p.owed w lt in let l = longer w in let a = asking_is w in
+              let was = p.owed w lt in let l = longer w in
+              let a = ap length (messages_are w) in
               omega (arith, was, l, a);
           quiet = λ e. absurd (true≢false e);
           asks = record {
             exchanges = p.asks.exchanges;
             asking = p.asks.asking;
-            coming = λ w. p.asks.coming w ++ replies_of (answered_in (new w));
-            none = λ e. absurd (true≢false e);
+            coming = coming;
             same = p.asks.same;
             asks = λ w lt. ap groups_in (told w) ∙ p.asks.asks w lt;
             hears = λ w lt. ap replies_of (flat_map-append answered_of (p.heard w) (new w))
@@ -317,23 +478,13 @@ module _ {F : Type 0} where
                 (p.asks.coming w) (replies_of (answered_in (new w)));
             seen = p.asks.seen;
             handled = p.asks.handled;
+            pending = under-way setting seen (seen_behind 0 p.asks.exchanges) later
+                (λ w. p.heard w ++ new w) p.asks.asking coming after asked k.seen_is way;
           };
         };
-        low = k.low;
-        pending = record {
-          tasks = u.tasks;
-          taken = u.taken;
-          places = subst (ArePlaces setting.workers u.tasks) (sym places) u.places;
-          asked_is = u.asked_is;
-          came = λ w lt. come-more (part_for setting.workers w u.tasks) (p.asks.coming w)
-              (part_of routes.parts w) (part_of after.parts w) (came w) (parts w) (replied w)
-              (u.came w lt);
-          paid = λ w lt here.
-              let more = paid-more (part_of routes.parts w) (part_of after.parts w) (came w)
-              (length (all_asking (sent w))) (length (p.heard w)) (parts w) (u.paid w lt)
-              (p.owed w lt) here in
-              let l = longer w in let a = asking_is w in omega (arith, more, l, a);
-        };
+        seen_is = k.seen_is;
+        limit = k.limit;
+        way = way;
         size = size ∙ k.size;
       }
 
@@ -347,22 +498,48 @@ module _ {F : Type 0} where
   -- what is asked of a worker, and its part behind it
   pub record GoesOut (seen : ℕ) (items : List Task) (part : Part) : Type 0 where
     pub asks : groups_in (message_for {F = F} seen (tasks_out part))
-        ≡ asked_for seen (requests_of items)
-    pub come : HasCome items [] (part_out part)
-    pub none : is_away (part_out part) ≡ false → message_for {F = F} seen (tasks_out part) ≡ []
+        ≡ message_of seen (requests_of items)
+    pub come : StandsIn items [] (part_out part)
+    pub owed : (messages : List (Ask F)) (heard : List (Answer F))
+        → length messages ≡ length heard → IsOwed (part_out part)
+        (messages ++ all_asking (message_for {F = F} seen (tasks_out part))) heard
+    pub takes : (test : Ask F → Bool)
+        → ((tasks : Reserved Task) → tasks.items ≡ items → test (ask.Group seen tasks) ≡ true)
+        → AllByRecursion (λ message. test message ≡ true)
+        (all_asking (message_for {F = F} seen (tasks_out part)))
 
   goes-items : (seen : ℕ) (items : List Task) (tasks : Reserved Task) → tasks.items ≡ items
       → (groups_in (message_for {F = F} seen (some_tasks items tasks))
-      ≡ asked_for seen (requests_of items))
-      × HasCome items [] (part_behind items (Here tasks))
-      × (is_away (part_behind items (Here tasks)) ≡ false
-      → message_for {F = F} seen (some_tasks items tasks) ≡ [])
-  goes-items seen [] tasks is = (refl, (refl, is), λ here. refl)
-  goes-items seen (task ∷ items) tasks is = (
-    ap (λ (xs : List Task). record { seen = seen; requests = requests_of xs } ∷ []) is,
-    (refl, refl),
-    λ here. absurd (true≢false here),
+      ≡ message_of seen (requests_of items))
+      × StandsIn items [] (part_behind items (Here tasks))
+      × ((messages : List (Ask F)) (heard : List (Answer F)) → length messages ≡ length heard
+      → IsOwed (part_behind items (Here tasks))
+      (messages ++ all_asking (message_for {F = F} seen (some_tasks items tasks))) heard)
+      × ((test : Ask F → Bool)
+      → ((others : Reserved Task) → others.items ≡ items → test (ask.Group seen others) ≡ true)
+      → AllByRecursion (λ message. test message ≡ true)
+      (all_asking (message_for {F = F} seen (some_tasks items tasks))))
+  goes-items seen [] tasks is = (
+    refl,
+    (refl, is),
+    λ messages heard same. ap length (append-nil messages) ∙ same,
+    λ test holds. tt,
   )
+  goes-items seen (task ∷ items) tasks is =
+      let group : List Task → List Asked = λ xs.
+      record { seen = seen; requests = requests_of xs } ∷ [] in (
+        ap group is,
+        (refl, refl),
+        λ messages heard same. record {
+          earlier = messages;
+          seen = seen;
+          tasks = tasks;
+          messages_are = refl;
+          heard_all = same;
+          many = ap length is;
+        },
+        λ test holds. (holds tasks is, tt),
+      )
 
   goes-out : (seen : ℕ) (items : List Task) (part : Part) → HasTasks part items
       → GoesOut seen items part
@@ -370,13 +547,14 @@ module _ {F : Type 0} where
   goes-out seen items (Here tasks) has =
       let all = goes-items seen tasks.items tasks refl in
       subst (λ (xs : List Task). GoesOut seen xs (Here tasks)) has
-      (record { asks = all.0; come = all.1; none = all.2 })
+      (record { asks = all.0; come = all.1; owed = all.2; takes = all.3 })
 
   -- a group was read and routed, and each worker was asked for its part
   pub keeps-asked : (setting : Setting) (sent later : ℕ → List (Ask F))
       (received now : ℕ → List (Answer F)) (groups : List (List Pair)) (seen : ℕ)
       (before routes after : RoutesState) (asked : List Request) (tasks : List Task)
-      → AreTaken asked tasks → IsRouted tasks routes → length routes.parts ≡ setting.workers
+      → setting.layout ≡ all_classes → AreTaken asked tasks → length tasks ≤ 64
+      → IsRouted tasks routes → length routes.parts ≡ setting.workers
       → ((worker : ℕ) → later worker
       ≡ sent worker ++ message_for seen (tasks_out (part_of routes.parts worker)))
       → ((worker : ℕ) → now worker ≡ received worker)
@@ -384,8 +562,8 @@ module _ {F : Type 0} where
       → after.places ≡ routes.places → length after.parts ≡ length routes.parts
       → Keeps setting sent received groups seen before [] false
       → Keeps setting later now groups seen after asked true
-  keeps-asked setting sent later received now groups seen before routes after asked tasks taken r
-      many told heard parts places size k =
+  keeps-asked setting sent later received now groups seen before routes after asked tasks layout
+      taken few r many told heard parts places size k =
       let p = k.promise in
       let n : ℕ = setting.workers in
       let message : ℕ → List (Ask F) = λ w.
@@ -394,50 +572,68 @@ module _ {F : Type 0} where
       λ w lt. goes-out seen (part_for n w tasks) (part_of routes.parts w)
       (subst (λ m. HasTasks (part_of routes.parts w) (part_for m w tasks)) many
       (r.parts w (omega (arith, many, lt)))) in
+      let messages_are : (w : ℕ) → all_asking (later w)
+      ≡ all_asking (sent w) ++ all_asking (message w) = λ w.
+      ap all_asking (told w) ∙ flat_map-append asking (sent w) (message w) in
       let asking_is : (w : ℕ) → length (all_asking (later w))
       ≡ length (all_asking (sent w)) + length (all_asking (message w)) = λ w.
-      ap (λ (xs : List (Ask F)). length (all_asking xs)) (told w)
-      ∙ ap length (flat_map-append asking (sent w) (message w))
+      ap length (messages_are w)
       ∙ length-append (all_asking (sent w)) (all_asking (message w)) in
+      let even : (w : ℕ) → w < n → length (all_asking (sent w)) ≡ length (p.heard w) = λ w lt.
+      let most = p.quiet refl w lt in
+      let least = Hears-length (all_asking (sent w)) (received w) (p.heard w) (p.hears w lt) in
+      omega (arith, most, least) in
+      let asking_now : ℕ → List Asked = λ w. message_of seen (requests_of (part_for n w tasks)) in
+      let way : IsOnWay setting seen later p.heard asking_now (λ w. []) after asked = record {
+        tasks = tasks;
+        taken = taken;
+        places = subst₂ (λ m (ps : List Place). ArePlaces m tasks ps) many (sym places) r.places;
+        asked_is = λ w lt. refl;
+        came = λ w lt. subst (StandsIn (part_for n w tasks) []) (sym (parts w)) (out w lt).come;
+        owed = λ w lt. subst₂ (λ (pt : Part) (ms : List (Ask F)). IsOwed pt ms (p.heard w))
+            (sym (parts w)) (sym (messages_are w))
+            ((out w lt).owed (all_asking (sent w)) (p.heard w) (even w lt));
+      } in
       record {
         promise = record {
+          taken = λ w lt. subst (AllByRecursion (λ m. takes_message setting.layout w n m ≡ true))
+              (sym (messages_are w)) (All-append (λ m. takes_message setting.layout w n m ≡ true)
+              (all_asking (sent w)) (all_asking (message w)) (p.taken w lt)
+              ((out w lt).takes (takes_message setting.layout w n) (λ others is.
+              subst (λ l. takes_message l w n (ask.Group seen others) ≡ true) (sym layout)
+              (takes-group n w seen asked tasks others.items taken few k.limit is))));
           heard = p.heard;
-          part = λ w lt. subst (IsPartOf (p.heard w)) (sym (heard w)) (p.part w lt);
+          hears = λ w lt. subst₂ (λ (ms : List (Ask F)) (xs : List (Answer F)).
+              Hears ms xs (p.heard w)) (sym (messages_are w)) (sym (heard w))
+              (Hears-more (all_asking (sent w)) (all_asking (message w)) (received w) (p.heard w)
+              (p.hears w lt));
           owed = λ w lt.
               let was = p.quiet refl w lt in let a = asking_is w in
-              let few = message-few seen (tasks_out (part_of routes.parts w)) in
-              omega (arith, was, a, few);
+              let most = message-few seen (tasks_out (part_of routes.parts w)) in
+              omega (arith, was, a, most);
           quiet = λ e. absurd (true≢false e);
           asks = record {
             exchanges = p.asks.exchanges;
-            asking = λ w. asked_for seen (requests_of (part_for n w tasks));
+            asking = asking_now;
             coming = λ w. [];
-            none = λ e. absurd (true≢false e);
             same = p.asks.same;
             asks = λ w lt. ap groups_in (told w)
                 ∙ flat_map-append group_of (sent w) (message w)
-                ∙ ap (λ xs. xs ++ groups_in (message w)) (p.asks.asks w lt
-                ∙ ap (λ xs. all_asked n w p.asks.exchanges ++ xs) (k.pending.unasked w lt)
-                ∙ append-nil (all_asked n w p.asks.exchanges))
-                ∙ ap (λ xs. all_asked n w p.asks.exchanges ++ xs) (out w lt).asks;
+                ∙ ap (λ (xs : List Asked). xs ++ groups_in (message w)) (p.asks.asks w lt
+                ∙ ap (λ (xs : List Asked). all_asked n w p.asks.exchanges ++ xs)
+                (p.asks.pending.asks w lt) ∙ append-nil (all_asked n w p.asks.exchanges))
+                ∙ ap (λ (xs : List Asked). all_asked n w p.asks.exchanges ++ xs) (out w lt).asks;
             hears = λ w lt. p.asks.hears w lt
-                ∙ ap (λ xs. all_replied n w p.asks.exchanges ++ xs) (p.asks.none refl w lt);
+                ∙ ap (λ (xs : List (List Reply)). all_replied n w p.asks.exchanges ++ xs)
+                (p.asks.pending.hears w lt);
             seen = p.asks.seen;
             handled = p.asks.handled;
+            pending = under-way setting seen (seen_behind 0 p.asks.exchanges) later p.heard
+                asking_now (λ w. []) after asked k.seen_is way;
           };
         };
-        low = k.low;
-        pending = record {
-          tasks = tasks;
-          taken = taken;
-          places = subst₂ (λ m (ps : List Place). ArePlaces m tasks ps) many (sym places) r.places;
-          asked_is = λ w lt. refl;
-          came = λ w lt. subst (HasCome (part_for n w tasks) []) (sym (parts w)) (out w lt).come;
-          paid = λ w lt here.
-              let none = ap (λ (xs : List (Ask F)). length (all_asking xs))
-              ((out w lt).none (ap is_away (sym (parts w)) ∙ here)) in
-              let was = p.quiet refl w lt in let a = asking_is w in
-              omega (arith, was, a, none);
-        };
+        seen_is = k.seen_is;
+        limit = k.limit;
+        way = way;
         size = size ∙ many;
       }

@@ -17,7 +17,7 @@ use Rattle.kv_session_party.specs.Exchanges.{message_for, part_behind_came}
 use Rattle.kv_session_party.specs.Party.{AreSeen}
 use Rattle.kv_session.specs.Passage.{Streams, HasRead, Delivers, with_pairs}
 use Rattle.kv_session_party.specs.Promise.{Tells, Keeps, HasCourse}
-use Rattle.kv_session_party.specs.Routes.{RoutesState, IsRouted, IsEmpty, IsMerged, IsReplied, part_of}
+use Rattle.kv_session_party.specs.Routes.{RoutesState, IsRouted, IsEmpty, IsMerged, part_of}
 use Rattle.kv_session_party.specs.Routes.{tasks_out, part_out, tasks_here, is_away, is_taken, replies_in}
 use Rattle.kv_session.specs.Session.{SessionState}
 use Rattle.kv_session.specs.Tasks.{AreTaken}

@@ -1,3 +1,4 @@
+pub mod Asking
 pub mod Routes
 pub mod Sending
 pub mod Links

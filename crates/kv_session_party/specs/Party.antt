@@ -1,12 +1,12 @@
 -- A session's party, and what a turn of it does.
 use Rattle.std.specs.Prelude.{◌≡◌, ℕ, ◌+◌, ◌^◌, ◌<◌, ◌≤◌, List, [], length, Option, None, Some, Bool}
-use Rattle.std.specs.Prelude.{true, false, ◌||◌, not, is_some, IsSome, if◌then◌else◌}
-use Rattle.std.specs.List.{AllByRecursion}
+use Rattle.std.specs.Prelude.{true, false, ◌||◌, not, is_some, IsSome, if◌then◌else◌, ◌∷◌, max, unwrap_or}
 use Rattle.kv_base.specs.declared.reply.Reply.{Reply}
 use Rattle.kv_model.specs.Pairs.{stamp_of}
 use Rattle.kv_session_party.specs.declared.turn.Turn.{Turn}
 use Rattle.kv_session_party.specs.declared.turn.Turn.TheVariants.{Moved, Idle, Ended}
 use Rattle.kv_ring.specs.declared.message.Answer.{Answer}
+use Rattle.kv_ring.specs.declared.task.Task.{Task}
 use Rattle.kv_session_party.specs.Exchanges.{is_owed, Comes}
 use Rattle.kv_session_party.specs.Links.{Pushes, any_waits, any_went, waiting_for, coming_from}
 use Rattle.kv_session_party.specs.Links.{heard_from}
@@ -37,10 +37,15 @@ abbrev pub WaitsAway : {F : Type 0} → Links F → RoutesState → Type 0
 WaitsAway links routes = (worker : ℕ) → is_away (part_of routes.parts worker) ≡ false
     → waiting_for links worker ≡ None
 
--- each stamp of the replies is at most the number
-abbrev pub AreSeen : ℕ → List Reply → Type 0
-AreSeen seen replies = AllByRecursion (λ reply. (stamp : ℕ) → stamp_of reply ≡ Some stamp
-    → stamp ≤ seen) replies
+-- the stamp that the reply carries, 0 where there is none
+abbrev pub stamp_in : Option Reply → ℕ
+stamp_in None = 0
+stamp_in (Some reply) = unwrap_or (stamp_of reply) 0
+
+-- the greatest of the number and the stamps of the tasks' replies
+abbrev pub greatest_in : ℕ → List Task → ℕ
+greatest_in number [] = number
+greatest_in number (task ∷ tasks) = greatest_in (max number (stamp_in task.reply)) tasks
 
 -- where a group is on its way the next answer of each worker that owes one is taken, if one is known
 -- of, and the session goes on waiting exactly where some worker's tasks are away then

@@ -1,26 +1,28 @@
--- What a session promises of its rings while a group is on its way, and of its bytes.
-use Rattle.std.specs.Prelude.{◌≡◌, ℕ, ◌+◌, ◌<◌, ◌≤◌, List, [], ◌∷◌, ◌++◌, length, map, Option, None}
-use Rattle.std.specs.Prelude.{Some, Bool, true, false, not, is_some}
+-- What a session keeps of the group that is on its way, and of its bytes.
+use Rattle.std.specs.Prelude.{◌≡◌, ◌<◌, ◌^◌, ℕ, List, [], ◌∷◌, ◌++◌, length, Option, None, Some}
+use Rattle.std.specs.Prelude.{Bool, true, false, not, is_some}
 use Rattle.std.specs.List.{AllByRecursion}
+use Rattle.kv_base.specs.Reserved.{Reserved}
 use Rattle.kv_base.specs.declared.reply.Reply.{Reply}
 use Rattle.kv_base.specs.declared.request.Request.{Request}
 use Rattle.kv_model.specs.Layout.{all_classes}
-use Rattle.kv_model.specs.Pairs.{Pair, stamps}
+use Rattle.kv_model.specs.Pairs.{Pair}
 use Rattle.kv_parties.specs.Groups.{Asked}
 use Rattle.kv_parties.specs.Messages.{all_asking}
-use Rattle.kv_parties.specs.Promises.{SessionPromise}
-use Rattle.kv_parties.specs.Sessions.{exchange_pairs, Handled}
+use Rattle.kv_parties.specs.Sessions.{Handled}
 use Rattle.kv_parties.specs.Setting.{Setting}
 use Rattle.kv_ring.specs.Tasks.{requests_of}
 use Rattle.kv_ring.specs.declared.message.Answer.{Answer}
 use Rattle.kv_ring.specs.declared.message.Ask.{Ask}
+use Rattle.kv_ring.specs.declared.message.Ask.TheVariants as ask
 use Rattle.kv_ring.specs.declared.task.Task.{Task}
 use Rattle.kv_session.specs.Passage.{Streams, HasRead, HasSession}
-use Rattle.kv_session_party.specs.Routes.{RoutesState, IsEmpty, ArePlaces, HasTasks, IsReplied, part_for}
-use Rattle.kv_session_party.specs.Routes.{part_of, is_away, replies_in}
 use Rattle.kv_session.specs.Session.{SessionState}
 use Rattle.kv_session.specs.Tasks.{AreTaken}
 use Rattle.kv_session.specs.declared.ending.Ending.{Ending}
+use Rattle.kv_session_party.specs.Asking.{SessionPromise, IsReplied, message_of, seen_behind}
+use Rattle.kv_session_party.specs.Routes.{RoutesState, IsEmpty, ArePlaces, HasTasks, part_for}
+use Rattle.kv_session_party.specs.Routes.{part_of, replies_in}
 use Rattle.kv_session_party.specs.declared.part.Part.{Part}
 use Rattle.kv_session_party.specs.declared.part.Part.TheVariants.{Here, Away}
 
@@ -29,62 +31,68 @@ pub record IsServed (setting : Setting) (workers : ℕ) : Type 0 where
   pub layout : setting.layout ≡ all_classes
   pub workers_are : setting.workers ≡ workers
 
--- one group of these requests, if there are any
-abbrev pub asked_for : ℕ → List Request → List Asked
-asked_for seen [] = []
-asked_for seen (request ∷ requests) =
-    record { seen = seen; requests = request ∷ requests } ∷ []
-
 -- what came for the tasks of a worker, and its part: nothing where there are no tasks, nothing while
 -- they are away, and else a reply to each
-abbrev pub HasCome : List Task → List (List Reply) → Part → Type 0
-HasCome [] coming part = (coming ≡ []) × HasTasks part []
-HasCome (task ∷ tasks) coming (Away count) = (coming ≡ []) × (count ≡ length (task ∷ tasks))
-HasCome (task ∷ tasks) coming (Here answer) = (coming ≡ replies_in answer.items ∷ [])
+abbrev pub StandsIn : List Task → List (List Reply) → Part → Type 0
+StandsIn [] coming part = (coming ≡ []) × HasTasks part []
+StandsIn (task ∷ tasks) coming (Away count) = (coming ≡ [])
+    × (count ≡ length (task ∷ tasks))
+StandsIn (task ∷ tasks) coming (Here answer) = (coming ≡ replies_in answer.items ∷ [])
     × (length answer.items ≡ length (task ∷ tasks)) × AllByRecursion IsReplied answer.items
 
 -- no group is on its way
-pub record IsQuiet (setting : Setting) (asking : ℕ → List Asked) (routes : RoutesState)
-    (asked : List Request) : Type 0 where
+pub record IsQuiet (routes : RoutesState) (asked : List Request) : Type 0 where
   pub none : asked ≡ []
-  pub unasked : (worker : ℕ) → worker < setting.workers → asking worker ≡ []
   pub empty : IsEmpty routes
 
 module _ {F : Type 0} where
+  -- the last message is the group of these many tasks, and all before it were answered
+  pub record AwaitsLast (count : ℕ) (messages : List (Ask F)) (heard : List (Answer F)) :
+      Type 0 where
+    pub earlier : List (Ask F)
+    pub seen : ℕ
+    pub tasks : Reserved Task
+    pub messages_are : messages ≡ earlier ++ ask.Group seen tasks ∷ []
+    pub heard_all : length earlier ≡ length heard
+    pub many : length tasks.items ≡ count
+
+  -- while the tasks of a part are away the answer to the last message is owed, and else none is
+  abbrev pub IsOwed : Part → List (Ask F) → List (Answer F) → Type 0
+  IsOwed (Here tasks) messages heard = length messages ≡ length heard
+  IsOwed (Away count) messages heard = AwaitsLast count messages heard
+
   -- the group of these requests is on its way: each worker that owns any of their keys was asked
   -- for these alone, and what came of it stands in its part
-  pub record IsUnderWay (setting : Setting) (seen : ℕ) (sent : ℕ → List (Ask F))
+  pub record IsOnWay (setting : Setting) (seen : ℕ) (sent : ℕ → List (Ask F))
       (heard : ℕ → List (Answer F)) (asking : ℕ → List Asked) (coming : ℕ → List (List Reply))
       (routes : RoutesState) (asked : List Request) : Type 0 where
     pub tasks : List Task
     pub taken : AreTaken asked tasks
     pub places : ArePlaces setting.workers tasks routes.places
     pub asked_is : (worker : ℕ) → worker < setting.workers → asking worker
-        ≡ asked_for seen (requests_of (part_for setting.workers worker tasks))
+        ≡ message_of seen (requests_of (part_for setting.workers worker tasks))
     pub came : (worker : ℕ) → worker < setting.workers
-        → HasCome (part_for setting.workers worker tasks) (coming worker)
+        → StandsIn (part_for setting.workers worker tasks) (coming worker)
         (part_of routes.parts worker)
-    pub paid : (worker : ℕ) → worker < setting.workers
-        → is_away (part_of routes.parts worker) ≡ false
-        → length (all_asking (sent worker)) ≤ length (heard worker)
+    pub owed : (worker : ℕ) → worker < setting.workers
+        → IsOwed (part_of routes.parts worker) (all_asking (sent worker)) (heard worker)
 
   -- the group of these requests is on its way, or none is
-  abbrev pub IsPending : Bool → Setting → ℕ → (ℕ → List (Ask F)) → (ℕ → List (Answer F))
+  abbrev pub StandsOut : Bool → Setting → ℕ → (ℕ → List (Ask F)) → (ℕ → List (Answer F))
       → (ℕ → List Asked) → (ℕ → List (List Reply)) → RoutesState → List Request → Type 0
-  IsPending false setting seen sent heard asking coming routes asked =
-      IsQuiet setting asking routes asked
-  IsPending true setting seen sent heard asking coming routes asked =
-      IsUnderWay setting seen sent heard asking coming routes asked
+  StandsOut false setting seen sent heard asking coming routes asked = IsQuiet routes asked
+  StandsOut true setting seen sent heard asking coming routes asked =
+      IsOnWay setting seen sent heard asking coming routes asked
 
   -- the session's promise, and what it keeps beside: the greatest stamp that it has seen, and where
   -- the group's requests are
   pub record Keeps (setting : Setting) (sent : ℕ → List (Ask F)) (received : ℕ → List (Answer F))
       (groups : List (List Pair)) (seen : ℕ) (routes : RoutesState) (asked : List Request)
       (waiting : Bool) : Type 0 where
-    pub promise : SessionPromise setting sent received groups waiting
-    pub low : AllByRecursion (λ exchange. AllByRecursion (λ stamp. stamp ≤ seen)
-        (stamps (exchange_pairs exchange))) promise.asks.exchanges
-    pub pending : IsPending waiting setting seen sent promise.heard promise.asks.asking
+    pub promise : SessionPromise setting sent received groups asked waiting
+    pub seen_is : seen ≡ seen_behind 0 promise.asks.exchanges
+    pub limit : seen < 2 ^ 62
+    pub way : StandsOut waiting setting seen sent promise.heard promise.asks.asking
         promise.asks.coming routes asked
     pub size : length routes.parts ≡ setting.workers
 

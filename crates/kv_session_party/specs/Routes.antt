@@ -1,5 +1,6 @@
 -- A group of requests on its way to the workers and back.
-use Rattle.std.specs.Prelude.{◌≡◌, ℕ, ◌<◌, List, [], ◌∷◌, ◌++◌, length, filter, map, nat_eq, nat_le}
+use Rattle.std.specs.Prelude.{◌≡◌, ℕ, ◌<◌, List, [], ◌∷◌, ◌++◌, length, filter, map, nat_eq}
+use Rattle.std.specs.Prelude.{◌^◌, nat_le, nat_lt}
 use Rattle.std.specs.Prelude.{Option, None, Some, Bool, true, false, not, is_some, ◌&&◌, ◌⊎◌, ⊤}
 use Rattle.std.specs.Prelude.{if◌then◌else◌, slice_index_or, slice_set, IsSome}
 use Rattle.std.specs.List.{AllByRecursion}
@@ -8,13 +9,13 @@ use Rattle.kv_base.specs.declared.reply.Reply.{Reply}
 use Rattle.kv_base.specs.declared.reply.Reply.TheVariants as reply
 use Rattle.kv_base.specs.declared.request.Request.{Request}
 use Rattle.kv_base.specs.declared.request.Request.TheVariants.{Flush}
-use Rattle.kv_model.specs.Frames.{HasReplyFrame}
 use Rattle.kv_model.specs.Pairs.{key_of}
 use Rattle.kv_parties.specs.Messages.{task_pairs}
 use Rattle.kv_parties.specs.Setting.{IsOwned, owns}
 use Rattle.kv_ring.specs.declared.message.Answer.{Answer}
 use Rattle.kv_ring.specs.declared.message.Answer.TheVariants as answer
 use Rattle.kv_ring.specs.declared.task.Task.{Task}
+use Rattle.kv_session_party.specs.Asking.{IsReplied}
 use Rattle.kv_session_party.specs.declared.part.Part.{Part}
 use Rattle.kv_session_party.specs.declared.part.Part.TheVariants.{Here, Away}
 use Rattle.kv_session_party.specs.declared.routes.Place.{Place}
@@ -144,24 +145,40 @@ abbrev pub part_out : Part → Part
 part_out (Here tasks) = part_behind tasks.items (Here tasks)
 part_out (Away count) = Away count
 
--- the value of a Found has room in a frame
-abbrev pub fits_frame : Reply → Bool
-fits_frame (reply.Found stamp value) = nat_le (length value) 65991
-fits_frame reply = true
+-- the stamp is below 2 ^ 62
+abbrev pub is_stamp : ℕ → Bool
+is_stamp stamp = nat_lt stamp (2 ^ 62)
 
--- the reply is there, and fits into a frame
-abbrev pub is_fitting : Option Reply → Bool
-is_fitting None = false
-is_fitting (Some reply) = fits_frame reply
+-- the reply goes into a frame, and its stamp, if it carries one, is below 2 ^ 62
+abbrev pub is_good : Reply → Bool
+is_good (reply.Stored stamp) = is_stamp stamp
+is_good (reply.Found stamp value) = is_stamp stamp && nat_le (length value) 65991
+is_good (reply.Missing stamp) = is_stamp stamp
+is_good (reply.Removed stamp) = is_stamp stamp
+is_good (reply.Absent stamp) = is_stamp stamp
+is_good reply.BadKey = true
+is_good reply.TooLarge = true
+is_good (reply.Full class) = true
+is_good reply.NoMemory = true
+is_good reply.DiskFault = true
+is_good (reply.Unsure stamp) = is_stamp stamp
+is_good reply.Closed = true
+is_good (reply.StampsSpent number) = true
+is_good (reply.Malformed offset) = true
+
+-- the reply is there, and is such a one
+abbrev pub has_reply : Option Reply → Bool
+has_reply None = false
+has_reply (Some reply) = is_good reply
 
 -- each task has such a reply
-abbrev pub all_fitting : List Task → Bool
-all_fitting [] = true
-all_fitting (task ∷ tasks) = is_fitting task.reply && all_fitting tasks
+abbrev pub have_replies : List Task → Bool
+have_replies [] = true
+have_replies (task ∷ tasks) = has_reply task.reply && have_replies tasks
 
 -- these are as many tasks, each with its reply
 abbrev pub answers_all : ℕ → List Task → Bool
-answers_all count tasks = nat_eq (length tasks) count && all_fitting tasks
+answers_all count tasks = nat_eq (length tasks) count && have_replies tasks
 
 -- the part behind the answer with these tasks: it is taken where the part is away and these answer
 -- all of it
@@ -169,12 +186,6 @@ abbrev pub part_with : Reserved Task → Part → Part
 part_with tasks (Here items) = Here items
 part_with tasks (Away count) =
     if answers_all count tasks.items then Here tasks else Away count
-
--- the task has a reply, which has a frame
-pub record IsReplied (task : Task) : Type 0 where
-  pub reply : Reply
-  pub is : task.reply ≡ Some reply
-  pub framed : HasReplyFrame reply
 
 -- the tasks are taken as the answer to the part
 abbrev pub takes_tasks : Part → List Task → Bool

@@ -1,15 +1,13 @@
-ghost use Rattle.std.specs.Prelude.{◌≡◌, ℕ, ◌≤◌, List, Some};
-ghost use Rattle.kv_base.specs.declared.reply.Reply.{Reply as ReplyOf};
+ghost use Rattle.std.specs.Prelude.{◌≡◌, [], ◌∷◌, unwrap_or};
 ghost use Rattle.kv_model.specs.Pairs.{stamp_of};
-ghost use Rattle.kv_session_party.specs.Party.{AreSeen};
-ghost use Rattle.kv_session.specs.Tasks.{HaveReplies};
+ghost use Rattle.kv_session_party.specs.Party.{greatest_in};
 
 use kv_base::Reply;
 use kv_ring::Task;
 
 /// The stamp that the reply carries, 0 where it carries none.
 fn stamp_in(reply: &Reply) -> u64
-    ensures { (stamp : ℕ) → stamp_of reply.now ≡ Some stamp → stamp ≡ result }
+    ensures { result ≡ unwrap_or (stamp_of reply.now) 0 }
 {
     match reply {
         Reply::Stored { stamp } => *stamp,
@@ -18,22 +16,35 @@ fn stamp_in(reply: &Reply) -> u64
         Reply::Removed { stamp } => *stamp,
         Reply::Absent { stamp } => *stamp,
         Reply::Unsure { stamp } => *stamp,
-        _ => 0,
+        Reply::BadKey
+        | Reply::TooLarge
+        | Reply::Full { class: _ }
+        | Reply::NoMemory
+        | Reply::DiskFault
+        | Reply::Closed
+        | Reply::StampsSpent { number: _ }
+        | Reply::Malformed { offset: _ } => 0,
+    }
+}
+
+/// The greatest of this number and the stamp of the task's reply.
+fn greater(task: &Task, seen: u64) -> u64
+    ensures { result ≡ greatest_in seen (task.now ∷ []) }
+{
+    match &task.reply {
+        Some(reply) => seen.max(stamp_in(reply)),
+        None => seen,
     }
 }
 
 /// The greatest of this number and the stamps of the tasks' replies.
 pub fn greatest(tasks: &[Task], seen: u64) -> u64
-    ensures least { seen ≤ result }
-    ensures seen { (replies : List ReplyOf) → HaveReplies tasks.now replies
-        → AreSeen result replies }
+    ensures { result ≡ greatest_in seen tasks.now }
 {
     let mut greatest = seen;
     let mut left = tasks;
     while let Some((task, later)) = left.split_first() {
-        if let Some(reply) = &task.reply {
-            greatest = greatest.max(stamp_in(reply));
-        }
+        greatest = greater(task, greatest);
         left = later;
     }
     greatest

@@ -1,10 +1,12 @@
-ghost use Rattle.std.specs.Prelude.{◌≡◌, ◌<◌, ◌^◌, ◌∷◌, ◌++◌, true, nat_le};
+ghost use Rattle.std.specs.Prelude.{◌≡◌, ◌<◌, ◌≤◌, ◌^◌, ◌∷◌, ◌++◌, true, nat_le, IfSome};
 ghost use Rattle.std.specs.List.{AllByRecursion};
 ghost use Rattle.kv_model.specs.Frames.{HasReplyFrame};
+ghost use Rattle.kv_model.specs.Pairs.{stamp_of};
+ghost use Rattle.kv_session_party.specs.Asking.{IsReplied};
 ghost use Rattle.kv_session_party.specs.Routes.{AddsTask, tasks_out, part_out, part_after, is_taken};
-ghost use Rattle.kv_session_party.specs.Routes.{fits_frame, is_fitting, all_fitting, answers_all, is_away};
-ghost use Rattle.kv_session_party.specs.Routes.{part_with, takes_tasks, tasks_here};
-ghost use Rattle.kv_session_party.specs.Routes.{IsReplied, EndsReplied, TakesReply};
+ghost use Rattle.kv_session_party.specs.Routes.{is_stamp, is_good, has_reply, have_replies};
+ghost use Rattle.kv_session_party.specs.Routes.{answers_all, is_away, part_with, takes_tasks};
+ghost use Rattle.kv_session_party.specs.Routes.{tasks_here, EndsReplied, TakesReply};
 
 use crate::reply::reply_to;
 use kv_base::{Reply, Request};
@@ -13,6 +15,9 @@ use std::mem;
 
 /// The most bytes of a value that has room in a reply's frame.
 const LONGEST_VALUE: usize = 65_991;
+
+/// Stamps are below this.
+const LIMIT: u64 = 1 << 62;
 
 /// A worker's tasks of a group.
 #[derive(Debug, Drop)]
@@ -97,17 +102,17 @@ fn accept_tasks(part: &mut Part, tasks: Tasks)
     }
 }
 
-/// Whether these are so many tasks, each with a reply that fits into a frame.
+/// Whether these are so many tasks, each with a reply that goes into a frame.
 fn answers_all(count: usize, tasks: &[Task]) -> bool
     ensures value { result ≡ answers_all count tasks.now }
     ensures replied { result ≡ true → AllByRecursion IsReplied tasks.now }
 {
-    tasks.len() == count && are_replied(tasks)
+    tasks.len() == count && have_replies(tasks)
 }
 
-/// Whether each task has a reply that fits into a frame.
-fn are_replied(tasks: &[Task]) -> bool
-    ensures value { result ≡ all_fitting tasks.now }
+/// Whether each task has a reply that goes into a frame, with a stamp below 2^62 if it carries one.
+fn have_replies(tasks: &[Task]) -> bool
+    ensures value { result ≡ have_replies tasks.now }
     ensures replied { result ≡ true → AllByRecursion IsReplied tasks.now }
 {
     let mut left = tasks;
@@ -120,34 +125,48 @@ fn are_replied(tasks: &[Task]) -> bool
     true
 }
 
-/// Whether the task has a reply that fits into a frame.
+/// Whether the task has such a reply.
 fn is_replied(task: &Task) -> bool
-    ensures value { result ≡ is_fitting task.now.reply }
+    ensures value { result ≡ has_reply task.now.reply }
     ensures replied { result ≡ true → IsReplied task.now }
 {
     match &task.reply {
-        Some(reply) => fits_frame(reply),
+        Some(reply) => is_good(reply),
         None => false,
     }
 }
 
-/// Whether the reply fits into a frame, as each does but a Found of too long a value.
-fn fits_frame(reply: &Reply) -> bool
-    ensures value { result ≡ fits_frame reply.now }
+/// Whether the reply goes into a frame, as each does but a Found of too long a value, and its
+/// stamp, if it carries one, is below 2^62.
+fn is_good(reply: &Reply) -> bool
+    ensures value { result ≡ is_good reply.now }
     ensures framed { result ≡ true → HasReplyFrame reply.now }
+    ensures stamp { result ≡ true → IfSome (stamp_of reply.now) (λ stamp. stamp < 2 ^ 62) }
 {
     match reply {
-        Reply::Found { stamp, value } => fits_value(*stamp, value.len()),
-        Reply::Stored { stamp } => is_word(*stamp),
-        Reply::Missing { stamp } => is_word(*stamp),
-        Reply::Removed { stamp } => is_word(*stamp),
-        Reply::Absent { stamp } => is_word(*stamp),
-        Reply::Unsure { stamp } => is_word(*stamp),
+        Reply::Found { stamp, value } => is_stamp(*stamp) && fits(value.len()),
+        Reply::Stored { stamp } => is_stamp(*stamp),
+        Reply::Missing { stamp } => is_stamp(*stamp),
+        Reply::Removed { stamp } => is_stamp(*stamp),
+        Reply::Absent { stamp } => is_stamp(*stamp),
+        Reply::Unsure { stamp } => is_stamp(*stamp),
         Reply::StampsSpent { number } => is_word(*number),
         Reply::Malformed { offset } => is_word(*offset),
         Reply::Full { class } => is_byte(*class),
-        _ => true,
+        Reply::BadKey => true,
+        Reply::TooLarge => true,
+        Reply::NoMemory => true,
+        Reply::DiskFault => true,
+        Reply::Closed => true,
     }
+}
+
+/// Whether the stamp is below 2^62.
+fn is_stamp(stamp: u64) -> bool
+    ensures value { result ≡ is_stamp stamp }
+    ensures low { result ≡ true → stamp < 2 ^ 62 }
+{
+    stamp < LIMIT
 }
 
 // A number of eight bytes.
@@ -164,10 +183,10 @@ fn is_byte(_number: u8) -> bool
     true
 }
 
-// Whether a value of so many bytes fits into a frame, beside its stamp.
-fn fits_value(_stamp: u64, length: usize) -> bool
+// Whether a value of so many bytes goes into a frame, beside its stamp.
+fn fits(length: usize) -> bool
     ensures value { result ≡ nat_le length 65991 }
-    ensures stamp { _stamp < 2 ^ 64 }
+    ensures room { result ≡ true → length ≤ 65991 }
 {
     length <= LONGEST_VALUE
 }

@@ -2,4 +2,4 @@ use Rattle.kv_session_party.proofs.LinkLemmas.{ByesUpTo}
 use Rattle.kv_session_party.proofs.links.Links.say_bye.Given as goal
 
 abbrev pub invariant-loop-worker : goal.invariant-loop-worker
-invariant-loop-worker l = ByesUpTo l.initial.self l.self l.worker
+invariant-loop-worker g l = ByesUpTo l.initial.self l.self l.worker

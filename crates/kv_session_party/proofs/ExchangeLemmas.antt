@@ -41,7 +41,7 @@ by-last P last here there other lt = ⊎_elim
     (λ (ne : other ≢ last). there other ne (omega (arith, lt, ne)))
     (same_or_not other last)
 
-not-last : (last other : ℕ) → last + 1 ≤ other → other ≢ last
+pub not-last : (last other : ℕ) → last + 1 ≤ other → other ≢ last
 not-last last other le e = absurd (omega (arith, le, e))
 
 module _ {F : Type 0} (seen : ℕ) (links : Links F) (routes : RoutesState) where
@@ -274,11 +274,11 @@ module _ {F : Type 0} (links : Links F) (routes : RoutesState) where
         places = one.places ∙ u.places;
         size = one.size ∙ u.size;
         still = λ e other.
-            let no = or-no moved found e in
+            let fails = or-no moved found e in
             ⊎_elim
             (λ (same : other ≡ worker). subst (λ w. came w ≡ None) (sym same)
-            (here ∙ none-of one.came (sym one.moved_is ∙ no.1)))
-            (λ (ne : other ≢ worker). there other ne ∙ u.still no.0 other)
+            (here ∙ none-of one.came (sym one.moved_is ∙ fails.1)))
+            (λ (ne : other ≢ worker). there other ne ∙ u.still fails.0 other)
             (same_or_not other worker);
         some = λ e. ⊎_elim
             (λ (before : moved ≡ true).

@@ -20,8 +20,8 @@ filtered p [] = tt
 filtered p (x ∷ xs) = by (p x) refl
   where
     by : (b : Bool) → p x ≡ b → AllByRecursion (λ y. p y ≡ true) (cond b (x ∷ filter p xs) (filter p xs))
-    by true yes = (yes, filtered p xs)
-    by false no = filtered p xs
+    by true holds = (holds, filtered p xs)
+    by false fails = filtered p xs
 
 replied-keyed : (request : Request) → has_reply request ≡ true → IsSome (key_of request)
 replied-keyed (Put key value) e = refl

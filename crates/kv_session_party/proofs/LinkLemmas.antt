@@ -15,6 +15,16 @@ use Rattle.kv_session_party.specs.declared.links.Links.{Links}
 use Rattle.kv_session_party.proofs.RouteLemmas.{eq_self, eq_not, same_or_not}
 use Rattle.kv_session_party.proofs.ExchangeLemmas.{by-last, not-last, rings-refl, rings-trans}
 
+or-later : (a b c : Bool) → (c || b) ≡ ((false || b) || c)
+or-later a true true = refl
+or-later a true false = refl
+or-later a false true = refl
+or-later a false false = refl
+
+or-inner : (a b c : Bool) → (a || (b || c)) ≡ ((a || b) || c)
+or-inner true b c = refl
+or-inner false b c = refl
+
 module _ {F : Type 0} where
   pub gone-none : (waiting : Option (Ask F)) → has_gone waiting waiting ≡ false
   gone-none None = refl
@@ -24,16 +34,6 @@ module _ {F : Type 0} where
   went-none [] = refl
   went-none (waiting ∷ unsent) = ap (λ b. b || any_went unsent unsent) (gone-none waiting)
       ∙ went-none unsent
-
-  or-later : (a b c : Bool) → (c || b) ≡ ((false || b) || c)
-  or-later a true true = refl
-  or-later a true false = refl
-  or-later a false true = refl
-  or-later a false false = refl
-
-  or-inner : (a b c : Bool) → (a || (b || c)) ≡ ((a || b) || c)
-  or-inner true b c = refl
-  or-inner false b c = refl
 
   -- where one more went, one went
   pub went-set : (unsent later : List (Option (Ask F))) (k : ℕ) (was left : Option (Ask F))

@@ -19,7 +19,7 @@ use Rattle.kv_session_party.specs.Routes.{RoutesState, IsRouted, ArePlaces, HasT
 use Rattle.kv_session_party.specs.Routes.{tasks_here, is_away, is_at, no_part}
 use Rattle.kv_session_party.specs.Routes.{replies_in, replies_at, IsOwn, HaveOwn, IsMerged}
 use Rattle.kv_session_party.specs.Asking.{IsReplied}
-use Rattle.kv_session_party.specs.Routes.{IsKnown, AreAnswered, EndsReplied, TakesReply}
+use Rattle.kv_session_party.specs.Routes.{IsKnown, AreAnswered, EndsReplied, IsReady, RepliesAt}
 use Rattle.kv_session.specs.Tasks.{HaveReplies}
 use Rattle.kv_session_party.specs.declared.part.Part.{Part}
 use Rattle.kv_session_party.specs.declared.part.Part.TheVariants.{Here, Away}
@@ -67,14 +67,14 @@ at-more worker left place = filter-append (is_at worker) left (place ∷ [])
 
 at-yes : (worker : ℕ) (left : List Place) (place : Place) → is_at worker place ≡ true
     → length (filter (is_at worker) (left ++ place ∷ [])) ≡ length (filter (is_at worker) left) + 1
-at-yes worker left place yes = ap length (at-more worker left place
-    ∙ ap (λ b. filter (is_at worker) left ++ cond b (place ∷ []) []) yes)
+at-yes worker left place holds = ap length (at-more worker left place
+    ∙ ap (λ b. filter (is_at worker) left ++ cond b (place ∷ []) []) holds)
     ∙ length-append (filter (is_at worker) left) (place ∷ [])
 
 at-no : (worker : ℕ) (left : List Place) (place : Place) → is_at worker place ≡ false
     → length (filter (is_at worker) (left ++ place ∷ [])) ≡ length (filter (is_at worker) left)
-at-no worker left place no = ap length (at-more worker left place
-    ∙ ap (λ b. filter (is_at worker) left ++ cond b (place ∷ []) []) no
+at-no worker left place fails = ap length (at-more worker left place
+    ∙ ap (λ b. filter (is_at worker) left ++ cond b (place ∷ []) []) fails
     ∙ append-nil (filter (is_at worker) left))
 
 -- ---- the loop
@@ -230,9 +230,9 @@ module _ (left rest : List Place) (parts : List Part) (number : ℕ) (part : Par
       → Merges first rest before now (tasks ++ answered_task reply ∷ [])
   Merges-worker first before tasks reply replied m =
       let taken : ℕ → List Task = λ w. cond (nat_eq number w) (last ∷ m.taken w) (m.taken w) in
-      let yes : taken number ≡ last ∷ m.taken number =
+      let holds : taken number ≡ last ∷ m.taken number =
       ap (λ b. cond b (last ∷ m.taken number) (m.taken number)) (eq_self number) in
-      let no : (other : ℕ) → other ≢ number → taken other ≡ m.taken other = λ other ne.
+      let fails : (other : ℕ) → other ≢ number → taken other ≡ m.taken other = λ other ne.
       ap (λ b. cond b (last ∷ m.taken other) (m.taken other))
       (eq_not number other (λ e. ne (sym e))) in
       record {
@@ -246,10 +246,10 @@ module _ (left rest : List Place) (parts : List Part) (number : ℕ) (part : Par
             ∙ append_assoc items (last ∷ []) (m.taken number)
             ∙ ap (λ (ts : List Task). ts ++ last ∷ m.taken number)
             (sym (ap tasks_here now-here ∙ has-here part items has))
-            ∙ ap (λ (ts : List Task). tasks_here (part_of now number) ++ ts) (sym yes))
+            ∙ ap (λ (ts : List Task). tasks_here (part_of now number) ++ ts) (sym holds))
             (λ other ne. m.parts_are other
             ∙ ap (λ (p : Part). tasks_here p ++ m.taken other) (sym (now-there other ne))
-            ∙ ap (λ (ts : List Task). tasks_here (part_of now other) ++ ts) (sym (no other ne)));
+            ∙ ap (λ (ts : List Task). tasks_here (part_of now other) ++ ts) (sym (fails other ne)));
         items = items-more tasks m.backward reply m.items;
         merged = subst (λ (rs : List Reply). IsMerged (Worker number ∷ m.done)
             (λ worker. replies_in (taken worker)) rs) (sym (reverse-push m.backward reply))
@@ -267,6 +267,31 @@ module _ (left rest : List Place) (parts : List Part) (number : ℕ) (part : Par
         answered = answered-worker m.answered;
         size = length-set parts number part ∙ m.size;
       }
+
+-- the reply for the last place is there
+pub Merges-ready : (first left rest : List Place) (before parts : List Part) (tasks : List Task)
+    (place : Place) → left ≡ rest ++ place ∷ [] → Merges first left before parts tasks
+    → IsReady place parts
+Merges-ready first left rest before parts tasks (Own reply) is m = tt
+Merges-ready first left rest before parts tasks (Worker number) is m = (
+  Merges-known first left rest before parts tasks number is m,
+  Merges-ends first left rest before parts tasks number is m,
+)
+
+pub Merges-more : (first left rest : List Place) (before parts new : List Part) (tasks : List Task)
+    (place : Place) (reply : Reply) → left ≡ rest ++ place ∷ [] → RepliesAt place parts new reply
+    → Merges first left before parts tasks
+    → Merges first rest before new (tasks ++ answered_task reply ∷ [])
+Merges-more first left rest before parts new tasks (Own own) reply is replies m =
+    subst₂ (λ (ps : List Part) (r : Reply).
+    Merges first rest before ps (tasks ++ answered_task r ∷ [])) (sym replies.1) (sym replies.0)
+    (Merges-own first left rest before parts tasks own is m)
+Merges-more first left rest before parts new tasks (Worker number) reply is replies m =
+    subst (λ (ps : List Part). Merges first rest before ps (tasks ++ answered_task reply ∷ []))
+    (sym replies.1)
+    (Merges-worker left rest parts number replies.0 replies.2.0 replies.2.1 is
+    (Merges-known first left rest before parts tasks number is m) replies.2.2 replies.2.4
+    first before tasks reply replies.2.3 m)
 
 -- ---- its end
 

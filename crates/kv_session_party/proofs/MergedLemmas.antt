@@ -136,10 +136,10 @@ part-requests n worker (q ∷ asked) (t ∷ tasks) (p ∷ places) (r ∷ merged)
     ∙ (elim (goes_to n worker t) as (λ b. goes_to n worker t ≡ b
     → requests (map (λ (x : Handled). x.pair) (cond b (h ∷ rest) rest))
     ≡ requests_of (cond b (t ∷ part_for n worker tasks) (part_for n worker tasks))) [
-      | true ↦ λ yes. ap (λ (x : Request).
-          x ∷ requests (map (λ (x : Handled). x.pair) rest)) (task-request n worker q t taken.0 yes)
+      | true ↦ λ holds. ap (λ (x : Request).
+          x ∷ requests (map (λ (x : Handled). x.pair) rest)) (task-request n worker q t taken.0 holds)
           ∙ ap (λ (xs : List Request). t.request ∷ xs) more
-      | false ↦ λ no. more
+      | false ↦ λ fails. more
     ]) refl
 
 -- all pairs
@@ -208,11 +208,11 @@ handled-one : (n : ℕ) (request : Request) (task : Task) (place : Place) (reply
     })
 handled-one n request task place reply keyed (inl on) is own = record {
   keyed = keyed;
-  own = λ no. absurd (true≢false (sym (ap (λ (o : Option Reply). not (is_some o)) on.waits) ∙ no));
+  own = λ fails. absurd (true≢false (sym (ap (λ (o : Option Reply). not (is_some o)) on.waits) ∙ fails));
 }
 handled-one n request task place reply keyed (inr refused) is own = record {
   keyed = keyed;
-  own = λ no. subst (λ (r : Reply). MatchOption (refusal_of all_classes request) (r ≡ NoMemory)
+  own = λ fails. subst (λ (r : Reply). MatchOption (refusal_of all_classes request) (r ≡ NoMemory)
       (λ refusal. r ≡ refusal))
       (sym (own-reply n task place reply refused.reply is own refused.answered)) refused.cause;
 }

@@ -77,10 +77,10 @@ was-goes n worker request task (inr refused) =
 pub task-request : (n worker : ℕ) (request : Request) (task : Task)
     → GoesOn request task ⊎ IsRefused request task → goes_to n worker task ≡ true
     → request ≡ task.request
-task-request n worker request task (inl on) yes = sym on.request_is
-task-request n worker request task (inr refused) yes = absurd (false≢true
+task-request n worker request task (inl on) holds = sym on.request_is
+task-request n worker request task (inr refused) holds = absurd (false≢true
     (sym (ap (λ (o : Option Reply). not (is_some o) && owns n worker (key_of task.request))
-    refused.answered) ∙ yes))
+    refused.answered) ∙ holds))
 
 asked-part : (n worker : ℕ) (asked : List Request) (tasks : List Task) → AreTaken asked tasks
     → asked_of n worker (sent_by asked tasks) ≡ requests_of (part_for n worker tasks)
@@ -96,10 +96,10 @@ asked-part n worker (q ∷ asked) (t ∷ tasks) taken =
     ∙ (elim (goes_to n worker t) as (λ b. goes_to n worker t ≡ b
     → map (λ (x : Sent). x.request) (cond b (s ∷ rest) rest)
     ≡ requests_of (cond b (t ∷ part_for n worker tasks) (part_for n worker tasks))) [
-      | true ↦ λ yes. ap (λ (x : Request). x ∷ map (λ (x : Sent). x.request) rest)
-          (task-request n worker q t taken.0 yes)
+      | true ↦ λ holds. ap (λ (x : Request). x ∷ map (λ (x : Sent). x.request) rest)
+          (task-request n worker q t taken.0 holds)
           ∙ ap (λ (xs : List Request). t.request ∷ xs) more
-      | false ↦ λ no. more
+      | false ↦ λ fails. more
     ]) refl
 
 come-part : (items : List Task) (coming : List (List Reply)) (part : Part)
@@ -237,9 +237,9 @@ module _ {F : Type 0} where
   passed-has : (mine : List Task) (coming : List (List Reply)) (part later : Part)
       (answer : Answer F) → later ≡ part → is_taken part answer ≡ false → StandsIn mine coming part
       → StandsIn mine (coming ++ replies_of (answered_in (taken_of part (Some answer)))) later
-  passed-has mine coming part later answer is no has =
+  passed-has mine coming part later answer is fails has =
       subst₂ (λ (xs : List (List Reply)) (p : Part). StandsIn mine xs p)
-      (sym (ap (λ b. coming ++ replies_of (answered_in (cond b (answer ∷ []) []))) no
+      (sym (ap (λ b. coming ++ replies_of (answered_in (cond b (answer ∷ []) []))) fails
       ∙ append-nil coming)) (sym is) has
 
   eq-of : (m n : ℕ) → nat_eq m n ≡ true → m ≡ n
@@ -260,20 +260,20 @@ module _ {F : Type 0} where
       (elim (answers_all count tasks.items) as (λ b. answers_all count tasks.items ≡ b
       → StandsIn (task ∷ mine) (coming
       ++ replies_of (answered_in (cond b (answer.Group tasks ∷ []) []))) later) [
-        | true ↦ λ yes.
-            let here : later ≡ Here tasks = is ∙ ap (λ b. cond b (Here tasks) (Away count)) yes in
+        | true ↦ λ holds.
+            let here : later ≡ Here tasks = is ∙ ap (λ b. cond b (Here tasks) (Away count)) holds in
             let items : AllByRecursion IsReplied tasks.items =
-            subst (λ p. AllByRecursion IsReplied (tasks_here p)) here (replied yes) in
+            subst (λ p. AllByRecursion IsReplied (tasks_here p)) here (replied holds) in
             let size : length tasks.items ≡ count =
             eq-of (length tasks.items) count (both-of (nat_eq (length tasks.items) count)
-            (have_replies tasks.items) yes) in
+            (have_replies tasks.items) holds) in
             subst (λ p. StandsIn (task ∷ mine) (coming ++ replies_in tasks.items ∷ []) p) (sym here) (
               ap (λ (xs : List (List Reply)). xs ++ replies_in tasks.items ∷ []) has.0,
               size ∙ has.1,
               items,
             )
-        | false ↦ λ no.
-            let away : later ≡ Away count = is ∙ ap (λ b. cond b (Here tasks) (Away count)) no in
+        | false ↦ λ fails.
+            let away : later ≡ Away count = is ∙ ap (λ b. cond b (Here tasks) (Away count)) fails in
             subst₂ (λ (xs : List (List Reply)) (p : Part). StandsIn (task ∷ mine) xs p)
             (sym (append-nil coming)) (sym away) has
       ]) refl
@@ -316,12 +316,12 @@ module _ {F : Type 0} where
   not-taken : (count seen : ℕ) (tasks : Reserved Task) (answer : Answer F)
       → length tasks.items ≡ count → is_taken (Away count) answer ≡ false
       → IsAnswerTo (ask.Group seen tasks) answer → ⊥
-  not-taken count seen tasks (answer.Group replied) many no is =
-      true≢false (sym (replied-all count replied.items (is.0 ∙ many) is.1) ∙ no)
-  not-taken count seen tasks (answer.Ready highest) many no is = is
-  not-taken count seen tasks (answer.Share fold) many no is = is
-  not-taken count seen tasks (answer.Refused why) many no is = is
-  not-taken count seen tasks answer.Dropped many no is = is
+  not-taken count seen tasks (answer.Group replied) many fails is =
+      true≢false (sym (replied-all count replied.items (is.0 ∙ many) is.1) ∙ fails)
+  not-taken count seen tasks (answer.Ready highest) many fails is = is
+  not-taken count seen tasks (answer.Share fold) many fails is = is
+  not-taken count seen tasks (answer.Refused why) many fails is = is
+  not-taken count seen tasks answer.Dropped many fails is = is
 
   -- what came is heard, or passed over
   hears-came : (part : Part) (came : Option (Answer F)) (messages : List (Ask F))
@@ -341,11 +341,11 @@ module _ {F : Type 0} where
       (elim (is_taken (Away count) answer) as (λ b. is_taken (Away count) answer ≡ b
       → Hears (owed.earlier ++ last ∷ []) (received ++ answer ∷ [])
       (heard ++ cond b (answer ∷ []) [])) [
-        | true ↦ λ yes. Hears-taken owed.earlier last received heard answer owed.heard_all was
-        | false ↦ λ no. subst (λ (xs : List (Answer F)).
+        | true ↦ λ holds. Hears-taken owed.earlier last received heard answer owed.heard_all was
+        | false ↦ λ fails. subst (λ (xs : List (Answer F)).
             Hears (owed.earlier ++ last ∷ []) (received ++ answer ∷ []) xs)
             (sym (append-nil heard)) (Hears-passed owed.earlier last received heard answer
-            (not-taken count owed.seen owed.tasks answer owed.many no) owed.heard_all was)
+            (not-taken count owed.seen owed.tasks answer owed.many fails) owed.heard_all was)
       ]) refl)
 
   awaits-more : (count : ℕ) (messages : List (Ask F)) (heard : List (Answer F)) (later : Part)
@@ -357,8 +357,8 @@ module _ {F : Type 0} where
       (elim (is_taken (Away count) answer) as (λ b. is_taken (Away count) answer ≡ b
       → later ≡ cond b later (Away count)
       → IsOwed later messages (heard ++ cond b (answer ∷ []) [])) [
-        | true ↦ λ yes same. paid later (here yes)
-        | false ↦ λ no same. subst₂ (λ (p : Part) (xs : List (Answer F)). IsOwed p messages xs)
+        | true ↦ λ holds same. paid later (here holds)
+        | false ↦ λ fails same. subst₂ (λ (p : Part) (xs : List (Answer F)). IsOwed p messages xs)
             (sym same) (sym (append-nil heard)) owed
       ]) refl is
     where
@@ -388,12 +388,12 @@ module _ {F : Type 0} where
   after-here : (count : ℕ) (later : Part) (answer : Answer F)
       → later ≡ part_after (Away count) answer → is_taken (Away count) answer ≡ true
       → is_away later ≡ false
-  after-here count later (answer.Ready highest) is yes = absurd (false≢true yes)
-  after-here count later (answer.Share fold) is yes = absurd (false≢true yes)
-  after-here count later (answer.Refused why) is yes = absurd (false≢true yes)
-  after-here count later answer.Dropped is yes = absurd (false≢true yes)
-  after-here count later (answer.Group tasks) is yes =
-      ap is_away (is ∙ ap (λ b. cond b (Here tasks) (Away count)) yes)
+  after-here count later (answer.Ready highest) is holds = absurd (false≢true holds)
+  after-here count later (answer.Share fold) is holds = absurd (false≢true holds)
+  after-here count later (answer.Refused why) is holds = absurd (false≢true holds)
+  after-here count later answer.Dropped is holds = absurd (false≢true holds)
+  after-here count later (answer.Group tasks) is holds =
+      ap is_away (is ∙ ap (λ b. cond b (Here tasks) (Away count)) holds)
 
   owed-more : (part later : Part) (came : Option (Answer F)) (messages : List (Ask F))
       (heard : List (Answer F)) → later ≡ part_behind_came part came

@@ -3,7 +3,7 @@ use Rattle.std.proofs.Common.{◌≡◌, ◌≢◌, ◌⊎◌, inl, inr, ⊎_eli
 use Rattle.std.proofs.Common.{◌∷◌, ◌++◌, length, reverse, Option, None, Some, Bool, true, false, cond}
 use Rattle.std.proofs.Common.{get_or, set, nat_eq, refl, sym, ap, ◌∙◌, subst, subst₂, arith}
 use Rattle.std.proofs.Common.{append_assoc, length-append}
-use Rattle.std.specs.Prelude.{not, is_some, ◌&&◌, IsSome, IfSome, filter}
+use Rattle.std.specs.Prelude.{not, is_some, ◌&&◌, IsSome, IfSome, filter, Result, Ok, OnOk}
 use Rattle.std.specs.List.{AllByRecursion}
 use Rattle.std.proofs.lemmas.Bool.{false≢true}
 use Rattle.std.proofs.lemmas.Bool.Decides.{nat_tests}
@@ -23,6 +23,18 @@ use Rattle.kv_session_party.specs.declared.part.Part.{Part}
 use Rattle.kv_session_party.specs.declared.part.Part.TheVariants.{Here, Away}
 use Rattle.kv_session_party.specs.declared.routes.Place.{Place}
 use Rattle.kv_session_party.specs.declared.routes.Place.TheVariants.{Own, Worker}
+
+-- ---- results
+
+-- what is said of a result where it is Ok
+pub ok-then : {A E : Type 0} (P : Type 0) (result : Result A E) (value : A) → result ≡ Ok value
+    → OnOk result P → P
+ok-then P result value is on = subst (λ r. OnOk r P) is on
+
+-- a list with no element
+pub none-left : {X : Type 0} (xs : List X) → (0 < length xs → ⊥) → xs ≡ []
+none-left [] none = refl
+none-left (x ∷ xs) none = absurd (none (omega arith))
 
 -- ---- who owns a key
 
@@ -71,14 +83,14 @@ part-more n worker tasks task = filter-append (goes_to n worker) tasks (task ∷
 
 part-stays : (n worker : ℕ) (tasks : List Task) (task : Task) → goes_to n worker task ≡ false
     → part_for n worker (tasks ++ task ∷ []) ≡ part_for n worker tasks
-part-stays n worker tasks task no = part-more n worker tasks task
-    ∙ ap (λ b. part_for n worker tasks ++ cond b (task ∷ []) []) no
+part-stays n worker tasks task fails = part-more n worker tasks task
+    ∙ ap (λ b. part_for n worker tasks ++ cond b (task ∷ []) []) fails
     ∙ append-nil (part_for n worker tasks)
 
 part-grows : (n worker : ℕ) (tasks : List Task) (task : Task) → goes_to n worker task ≡ true
     → part_for n worker (tasks ++ task ∷ []) ≡ part_for n worker tasks ++ task ∷ []
-part-grows n worker tasks task yes = part-more n worker tasks task
-    ∙ ap (λ b. part_for n worker tasks ++ cond b (task ∷ []) []) yes
+part-grows n worker tasks task holds = part-more n worker tasks task
+    ∙ ap (λ b. part_for n worker tasks ++ cond b (task ∷ []) []) holds
 
 adds-has : (part later : Part) (task : Task) (items : List Task) → AddsTask true part later task
     → HasTasks part items → HasTasks later (items ++ task ∷ [])
@@ -103,14 +115,14 @@ pub routed-own : (tasks : List Task) (g later : RoutesState) (task : Task) (repl
     → IsRouted tasks g → IsRouted (tasks ++ task ∷ []) later
 routed-own tasks g later task reply places parts own r =
     let n : ℕ = length g.parts in
-    let no : (worker : ℕ) → goes_to n worker task ≡ false = λ worker.
+    let fails : (worker : ℕ) → goes_to n worker task ≡ false = λ worker.
     ap (λ (o : Option Reply). not (is_some o) && owns n worker (key_of task.request)) own in
     routed-as (tasks ++ task ∷ []) later
     (subst₂ (λ (ps : List Place) (ws : List Part). RoutedAs (length ws) (tasks ++ task ∷ []) ps ws)
     (sym places) (sym parts) (
       ArePlaces-more n tasks g.places task (Own reply) r.places own,
       λ worker lt. subst (λ (xs : List Task). HasTasks (part_of g.parts worker) xs)
-          (sym (part-stays n worker tasks task (no worker))) (r.parts worker lt),
+          (sym (part-stays n worker tasks task (fails worker))) (r.parts worker lt),
     ))
 
 -- a task for the request, in the part of the worker that owns its key
@@ -126,22 +138,22 @@ routed-worker tasks g later request number part some lt owned places parts adds 
     let task : Task = record { request = request; reply = None } in
     let more : List Task = tasks ++ task ∷ [] in
     let now : List Part = set g.parts number part in
-    let yes : goes_to n number task ≡ true = owns-self n number (key_of request) some owned in
-    let no : (other : ℕ) → other ≢ number → goes_to n other task ≡ false = λ other ne.
+    let holds : goes_to n number task ≡ true = owns-self n number (key_of request) some owned in
+    let fails : (other : ℕ) → other ≢ number → goes_to n other task ≡ false = λ other ne.
     owns-other n number other (key_of request) owned ne in
     let here : HasTasks (part_of now number) (part_for n number more) =
     subst₂ (λ (p : Part) (xs : List Task). HasTasks p xs)
     (sym (get_or-set_same g.parts number part no_part lt))
-    (sym (part-grows n number tasks task yes))
+    (sym (part-grows n number tasks task holds))
     (adds-has (part_of g.parts number) part task (part_for n number tasks) adds
     (r.parts number lt)) in
     let there : (other : ℕ) → other ≢ number → other < n
     → HasTasks (part_of now other) (part_for n other more) = λ other ne less.
     subst₂ (λ (p : Part) (xs : List Task). HasTasks p xs)
     (sym (get_or-set_other g.parts number other part no_part ne))
-    (sym (part-stays n other tasks task (no other ne))) (r.parts other less) in
+    (sym (part-stays n other tasks task (fails other ne))) (r.parts other less) in
     let all : RoutedAs n more (g.places ++ Worker number ∷ []) now = (
-      ArePlaces-more n tasks g.places task (Worker number) r.places (refl, lt, yes),
+      ArePlaces-more n tasks g.places task (Worker number) r.places (refl, lt, holds),
       λ worker less. ⊎_elim
           (λ (e : worker ≡ number). subst (λ w. HasTasks (part_of now w) (part_for n w more)) (sym e)
           here)
@@ -163,28 +175,34 @@ pub routes-own : (task : Task) (g later : RoutesState) (reply : Reply) → task.
 routes-own task g later reply own places parts =
     (task, inl refl, λ tasks r. routed-own tasks g later task reply places parts own r)
 
-pub routes-placed : (request : Request) (g later : RoutesState) (parts : List Part) (place : Place)
-    → IsSome (key_of request) → IsPlaced g.parts parts request place
-    → later.places ≡ g.places ++ place ∷ [] → later.parts ≡ parts
-    → RoutesOne (record { request = request; reply = None }) g later
-routes-placed request g later parts (Own own) some placed places is = (
-  unrouted,
-  inr (refl, refl),
-  λ tasks r. routed-own tasks g later unrouted own places (is ∙ placed.0) (ap Some (sym placed.1)) r,
-)
-routes-placed request g later parts (Worker number) some placed places is = (
-  record { request = request; reply = None },
-  inl refl,
-  λ tasks r. routed-worker tasks g later request number placed.2 some placed.0 placed.1 places
-      (is ∙ placed.3) placed.4 r,
-)
+pub routes-placed : (task : Task) (g later : RoutesState) (place : Place) → task.reply ≡ None
+    → IsSome (key_of task.request) → IsPlaced g.parts later.parts task.request place
+    → later.places ≡ g.places ++ place ∷ [] → RoutesOne task g later
+routes-placed task g later place none some placed places =
+    subst (λ (o : Option Reply). RoutesOne (record { request = task.request; reply = o }) g later)
+    (sym none) (by place placed places)
+  where
+    by : (place : Place) → IsPlaced g.parts later.parts task.request place
+        → later.places ≡ g.places ++ place ∷ []
+        → RoutesOne (record { request = task.request; reply = None }) g later
+    by (Own own) placed places = (
+      unrouted,
+      inr (refl, refl),
+      λ tasks r. routed-own tasks g later unrouted own places placed.0 (ap Some (sym placed.1)) r,
+    )
+    by (Worker number) placed places = (
+      record { request = task.request; reply = None },
+      inl refl,
+      λ tasks r. routed-worker tasks g later task.request number placed.2.0 some placed.0 placed.1
+          places placed.2.1 placed.2.2 r,
+    )
 
 -- the parts stay as many
 pub placed-size : (request : Request) (parts later : List Part) (place : Place)
     → IsPlaced parts later request place → length later ≡ length parts
 placed-size request parts later (Own own) placed = ap length placed.0
 placed-size request parts later (Worker number) placed =
-    ap length placed.3 ∙ length-set parts number placed.2
+    ap length placed.2.1 ∙ length-set parts number placed.2.0
 
 -- ---- all tasks
 

@@ -17,13 +17,13 @@ use Rattle.kv_session_party.specs.Asking.{takes_task, takes_each, takes_all}
 use Rattle.kv_session_party.specs.Routes.{goes_to, part_for}
 
 pub and-both : (a b : Bool) → a ≡ true → b ≡ true → (a && b) ≡ true
-and-both true b yes e = e
-and-both false b yes e = absurd (false≢true yes)
+and-both true b holds e = e
+and-both false b holds e = absurd (false≢true holds)
 
 and-three : (a b c : Bool) → a ≡ false → b ≡ false → c ≡ true → (not a && not b && c) ≡ true
-and-three false false c no none e = e
-and-three false true c no none e = absurd (true≢false none)
-and-three true b c no none e = absurd (true≢false no)
+and-three false false c fails none e = e
+and-three false true c fails none e = absurd (true≢false none)
+and-three true b c fails none e = absurd (true≢false fails)
 
 not-and : (a b : Bool) → (not a && b) ≡ true → (a ≡ false) × (b ≡ true)
 not-and true b e = absurd (false≢true e)
@@ -33,15 +33,15 @@ not-and false b e = (refl, e)
 takes-one : (n worker : ℕ) (request : Request) (task : Task)
     → GoesOn request task ⊎ IsRefused request task → goes_to n worker task ≡ true
     → takes_task all_classes worker n task ≡ true
-takes-one n worker request task (inl on) yes = and-three (is_some task.reply)
+takes-one n worker request task (inl on) holds = and-three (is_some task.reply)
     (is_some (refusal_of all_classes task.request)) (owns n worker (key_of task.request))
     (ap (λ (o : Option Reply). is_some o) on.waits)
     (ap (λ (r : Request). is_some (refusal_of all_classes r)) on.request_is
     ∙ ap (λ (o : Option Reply). is_some o) on.good.good)
-    ((not-and (is_some task.reply) (owns n worker (key_of task.request)) yes).1)
-takes-one n worker request task (inr refused) yes = absurd (true≢false
+    ((not-and (is_some task.reply) (owns n worker (key_of task.request)) holds).1)
+takes-one n worker request task (inr refused) holds = absurd (true≢false
     (sym (ap (λ (o : Option Reply). is_some o) refused.answered)
-    ∙ (not-and (is_some task.reply) (owns n worker (key_of task.request)) yes).0))
+    ∙ (not-and (is_some task.reply) (owns n worker (key_of task.request)) holds).0))
 
 takes-part : (n worker : ℕ) (asked : List Request) (tasks : List Task) → AreTaken asked tasks
     → takes_each all_classes worker n (part_for n worker tasks) ≡ true
@@ -52,10 +52,10 @@ takes-part n worker (q ∷ asked) (t ∷ tasks) taken =
     let more = takes-part n worker asked tasks taken.1 in
     (elim (goes_to n worker t) as (λ b. goes_to n worker t ≡ b → takes_each all_classes worker n
     (cond b (t ∷ part_for n worker tasks) (part_for n worker tasks)) ≡ true) [
-      | true ↦ λ yes. and-both (takes_task all_classes worker n t)
+      | true ↦ λ holds. and-both (takes_task all_classes worker n t)
           (takes_each all_classes worker n (part_for n worker tasks))
-          (takes-one n worker q t taken.0 yes) more
-      | false ↦ λ no. more
+          (takes-one n worker q t taken.0 holds) more
+      | false ↦ λ fails. more
     ]) refl
 
 part-few : (n worker : ℕ) (tasks : List Task) → length (part_for n worker tasks) ≤ length tasks

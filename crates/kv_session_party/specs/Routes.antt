@@ -263,3 +263,15 @@ EndsReplied tasks = (rest : List Task) × (last : Task) × (tasks ≡ rest ++ la
 abbrev pub TakesReply : Part → Part → Reply → Type 0
 TakesReply old new reply = (rest : List Task) × (last : Task)
     × (tasks_here old ≡ rest ++ last ∷ []) × (last.reply ≡ Some reply) × HasTasks new rest
+
+-- a task with its reply is there for the place, the last one of its worker's part, or it needs none
+abbrev pub IsReady : Place → List Part → Type 0
+IsReady (Own reply) parts = ⊤
+IsReady (Worker number) parts = (number < length parts)
+    × EndsReplied (tasks_here (part_of parts number))
+
+-- the reply is the place's own, or is taken from the last task of its worker's part
+abbrev pub RepliesAt : Place → List Part → List Part → Reply → Type 0
+RepliesAt (Own own) parts new reply = (reply ≡ own) × (new ≡ parts)
+RepliesAt (Worker number) parts new reply = (part : Part) × (new ≡ slice_set parts number part)
+    × TakesReply (part_of parts number) part reply

@@ -5,6 +5,7 @@ ghost use Rattle.kv_session_party.specs.Links.{waiting_for};
 
 use crate::links::Links;
 use crate::routes::Routes;
+use crate::send::either;
 use kv_ring::Ask;
 
 /// Sends each worker that has a task of the group all of its own, in one message.
@@ -39,7 +40,7 @@ pub fn receive<F: Drop>(links: &mut Links<F>, routes: &mut Routes) -> bool
     let mut moved = false;
     for worker in 0..routes.workers() {
         let came = receive_from(links, routes, worker);
-        moved = moved || came;
+        moved = either(moved, came);
     }
     moved
 }

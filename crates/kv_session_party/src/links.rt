@@ -1,7 +1,7 @@
 ghost use Rattle.std.specs.Prelude.{◌≡◌, vec_len};
 ghost use Rattle.kv_ring.specs.Ends.{peers};
 
-use crate::send::{no_messages, send, send_waiting};
+use crate::send::{either, no_messages, send, send_waiting};
 use kv_base::NoMemory;
 use kv_ring::{Answer, Ask, SessionEnds, WorkerEnds, left_between};
 use std::alloc::Global;
@@ -68,7 +68,7 @@ impl<F: Drop> Links<F> {
         let mut moved = false;
         for worker in 0..self.unsent.len() {
             let sent = send_waiting(&mut self.ends, worker as u32, &mut self.unsent[worker]);
-            moved = moved || sent;
+            moved = either(moved, sent);
         }
         moved
     }

@@ -1,5 +1,5 @@
 ghost use Rattle.std.specs.Prelude.{◌≡◌, ℕ, ◌≤◌, ◌<◌, ◌+◌, List, [], ◌∷◌, ◌++◌, length, IsSome, IfOk};
-ghost use Rattle.std.specs.Prelude.{slice_set, true};
+ghost use Rattle.std.specs.Prelude.{slice_set, true, reverse};
 ghost use Rattle.std.specs.List.{AllByRecursion};
 ghost use Rattle.kv_base.specs.Partition.{owner_of};
 ghost use Rattle.kv_base.specs.declared.reply.Reply.{Reply as ReplyOf};
@@ -11,7 +11,7 @@ ghost use Rattle.kv_session_party.specs.Routes.{IsRouted, IsEmpty, IsRoutable, I
 ghost use Rattle.kv_session_party.specs.Routes.{part_of, tasks_out, part_out, is_away, part_after};
 ghost use Rattle.kv_session_party.specs.Asking.{IsReplied};
 ghost use Rattle.kv_session_party.specs.Routes.{is_taken, tasks_here, AreAnswered, IsMerged};
-ghost use Rattle.kv_session_party.specs.Routes.{replies_in, all_here};
+ghost use Rattle.kv_session_party.specs.Routes.{replies_in, all_here, IsReady, RepliesAt};
 
 use crate::part::{self, Part};
 use kv_base::{NoMemory, Reply, Request, ReservedList, owner};
@@ -104,7 +104,7 @@ impl Routes {
         ensures no_tasks { tasks.new.items ≡ [] }
         ensures spare { tasks.new.spare ≡ tasks.old.spare + length tasks.old.items }
     {
-        tasks.as_mut_slice().reverse();
+        turn_round(tasks);
         while let Some(task) = tasks.take_last() {
             self.add(task);
         }
@@ -198,13 +198,10 @@ impl Routes {
         ensures many { length tasks.new.items ≡ length self.old.places }
     {
         while let Some(place) = self.places.take_last() {
-            let reply = match place {
-                Place::Own { reply } => reply,
-                Place::Worker { number } => part::take_reply(&mut self.parts[number as usize]),
-            };
+            let reply = take_reply(&mut self.parts, place);
             tasks.append(answered(reply)).unwrap();
         }
-        tasks.as_mut_slice().reverse();
+        turn_round(tasks);
     }
 }
 
@@ -223,6 +220,26 @@ fn place_task(parts: &mut Vec<Part>, request: Request) -> Place
             reply: Reply::NoMemory,
         }
     }
+}
+
+/// Takes the reply for the place: its own, or that of the last task of its worker's part.
+fn take_reply(parts: &mut Vec<Part>, place: Place) -> Reply
+    requires { IsReady place parts.old.items }
+    ensures { RepliesAt place parts.old.items parts.new.items result }
+{
+    match place {
+        Place::Own { reply } => reply,
+        Place::Worker { number } => part::take_reply(&mut parts[number as usize]),
+    }
+}
+
+/// Puts the tasks into the other order.
+fn turn_round(tasks: &mut Tasks)
+    ensures items { tasks.new.items ≡ reverse tasks.old.items }
+    ensures many { length tasks.new.items ≡ length tasks.old.items }
+    ensures spare { tasks.new.spare ≡ tasks.old.spare }
+{
+    tasks.as_mut_slice().reverse();
 }
 
 /// A task that has its reply and nothing else.

@@ -1,4 +1,4 @@
-ghost use Rattle.std.specs.Prelude.{◌≡◌, ℕ, ◌<◌, Some, None, IfOk, vec_len, slice_index_or};
+ghost use Rattle.std.specs.Prelude.{◌≡◌, ℕ, ◌<◌, Some, None, IfOk, vec_len, slice_index_or, ◌||◌};
 ghost use Rattle.kv_ring.specs.Ends.{peers};
 ghost use Rattle.kv_session_party.specs.Sending.{Sends, has_gone};
 
@@ -48,4 +48,11 @@ pub fn send_waiting<F: Drop>(
             waiting.is_none()
         }
     }
+}
+
+/// Whether one of the two is so.
+pub fn either(one: bool, other: bool) -> bool
+    ensures { result ≡ (one || other) }
+{
+    one || other
 }

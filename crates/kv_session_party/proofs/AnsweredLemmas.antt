@@ -6,11 +6,11 @@ use Rattle.std.specs.List.{AllByRecursion}
 use Rattle.std.proofs.lemmas.Bool.{true≢false, false≢true}
 use Rattle.std.proofs.lemmas.List.{get_or_past}
 use Rattle.kv_base.specs.declared.reply.Reply.{Reply}
-use Rattle.kv_model.specs.Frames.{HasReplyFrame}
+use Rattle.kv_model.proofs.PairwiseLemmas.{All-map}
 use Rattle.kv_ring.specs.declared.task.Task.{Task}
-use Rattle.kv_session_party.specs.Promise.{HasCome}
+use Rattle.kv_session_party.specs.Promise.{StandsIn}
 use Rattle.kv_session_party.specs.Asking.{IsReplied}
-use Rattle.kv_session_party.specs.Routes.{AreAnswered, ArePlaces, IsPlace, IsKnown, all_here}
+use Rattle.kv_session_party.specs.Routes.{AreAnswered, ArePlaces, IsPlace, IsKnown, HasReply, all_here}
 use Rattle.kv_session_party.specs.Routes.{is_at, is_away, goes_to, part_for, part_of, tasks_here, no_part}
 use Rattle.kv_session_party.specs.Routes.{replies_in}
 use Rattle.kv_session_party.specs.declared.part.Part.{Part}
@@ -20,7 +20,9 @@ use Rattle.kv_session_party.specs.declared.routes.Place.TheVariants.{Own, Worker
 use Rattle.kv_session_party.proofs.ExchangeLemmas.{before_or_not}
 use Rattle.kv_session_party.proofs.MergeLemmas.{replies-more}
 use Rattle.kv_session_party.proofs.MergedLemmas.{place-goes}
+use Rattle.kv_session_party.proofs.PartLemmas.{has-reply}
 use Rattle.kv_session_party.proofs.RouteLemmas.{eq_not}
+use Rattle.kv_session_party.proofs.TakenLemmas.{IsFramed}
 
 not-both : (a b : Bool) → (not a && b) ≡ true → a ≡ false
 not-both true b e = absurd (false≢true e)
@@ -84,7 +86,7 @@ pub record Comes (mine : List Task) (part : Part) : Type 0 where
   pub replied : AllByRecursion IsReplied (tasks_here part)
 
 come-here : (mine : List Task) (coming : List (List Reply)) (part : Part) → is_away part ≡ false
-    → HasCome mine coming part → Comes mine part
+    → StandsIn mine coming part → Comes mine part
 come-here [] coming (Here tasks) here has = record {
   many = ap length (sym has.1);
   replied = subst (AllByRecursion IsReplied) (sym has.1) tt;
@@ -98,7 +100,7 @@ pub answered-all : (n : ℕ) (tasks : List Task) (places : List Place) (parts : 
     (coming : ℕ → List (List Reply)) → length parts ≡ n → ArePlaces n tasks places
     → ((worker : ℕ) → is_away (part_of parts worker) ≡ false)
     → ((worker : ℕ) → worker < n
-    → HasCome (part_for n worker tasks) (coming worker) (part_of parts worker))
+    → StandsIn (part_for n worker tasks) (coming worker) (part_of parts worker))
     → AreAnswered places parts
 answered-all n tasks places parts coming size are here come =
     let known = known-all n tasks places are in
@@ -116,16 +118,23 @@ answered-all n tasks places parts coming size are here come =
           ∙ ap (λ (p : Part). length (tasks_here p)) (sym (past worker le)))
           (before_or_not worker n);
       replied = λ worker. ⊎_elim
-          (λ (lt : worker < n). (each worker lt).replied)
-          (λ (le : n ≤ worker). subst (λ (p : Part). AllByRecursion IsReplied (tasks_here p))
+          (λ (lt : worker < n). All-map IsReplied HasReply (tasks_here (part_of parts worker))
+          has-reply (each worker lt).replied)
+          (λ (le : n ≤ worker). subst (λ (p : Part). AllByRecursion HasReply (tasks_here p))
           (sym (past worker le)) tt)
           (before_or_not worker n);
     }
 
--- the replies have frames
+-- the replies go into frames
 pub replied-framed : (items : List Task) → AllByRecursion IsReplied items
-    → AllByRecursion HasReplyFrame (replies_in items)
+    → AllByRecursion IsFramed (replies_in items)
 replied-framed [] all = tt
 replied-framed (item ∷ items) all =
-    subst (AllByRecursion HasReplyFrame) (sym (replies-more item items all.0.reply all.0.is))
-    (all.0.framed, replied-framed items all.1)
+    subst (AllByRecursion IsFramed) (sym (replies-more item items all.0.reply all.0.is))
+    ((all.0.framed, all.0.stamp), replied-framed items all.1)
+
+-- each task of a worker that answered has its reply
+pub come-replied : (mine : List Task) (coming : List (List Reply)) (part : Part)
+    → is_away part ≡ false → StandsIn mine coming part
+    → AllByRecursion IsReplied (tasks_here part)
+come-replied mine coming part here stands = (come-here mine coming part here stands).replied

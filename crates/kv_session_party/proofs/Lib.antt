@@ -1,3 +1,5 @@
+pub mod SendingLemmas
+pub mod PropositionLemmas
 pub mod HearingLemmas
 pub mod TakingLemmas
 pub mod PartLemmas

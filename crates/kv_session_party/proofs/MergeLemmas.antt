@@ -6,6 +6,7 @@ use Rattle.std.proofs.Common.{append_assoc, length-append}
 use Rattle.std.specs.Prelude.{IsSome, filter}
 use Rattle.std.specs.List.{AllByRecursion, cons_option}
 use Rattle.std.specs.Option.{option_map}
+use Rattle.std.proofs.lemmas.Bool.{false≢true}
 use Rattle.std.proofs.lemmas.List.{append-nil, reverse-append, length-set, get_or-set_same}
 use Rattle.std.proofs.lemmas.List.{get_or-set_other, map-append, length-map, length-reverse}
 use Rattle.std.proofs.lemmas.List.Elements.{filter-append}
@@ -18,8 +19,7 @@ use Rattle.kv_ring.specs.declared.task.Task.{Task}
 use Rattle.kv_session_party.specs.Routes.{RoutesState, IsRouted, ArePlaces, HasTasks, part_of}
 use Rattle.kv_session_party.specs.Routes.{tasks_here, is_away, is_at, no_part}
 use Rattle.kv_session_party.specs.Routes.{replies_in, replies_at, IsOwn, HaveOwn, IsMerged}
-use Rattle.kv_session_party.specs.Asking.{IsReplied}
-use Rattle.kv_session_party.specs.Routes.{IsKnown, AreAnswered, EndsReplied, IsReady, RepliesAt}
+use Rattle.kv_session_party.specs.Routes.{IsKnown, AreAnswered, HasReply, has_reply, EndsReplied, IsReady, RepliesAt}
 use Rattle.kv_session.specs.Tasks.{HaveReplies}
 use Rattle.kv_session_party.specs.declared.part.Part.{Part}
 use Rattle.kv_session_party.specs.declared.part.Part.TheVariants.{Here, Away}
@@ -163,6 +163,10 @@ Merges-known first left rest before parts tasks number is m =
     all-at (IsKnown (length parts)) rest (Worker number) []
     (subst (AllByRecursion (IsKnown (length parts))) is m.answered.known)
 
+some-reply : (reply : Option Reply) → has_reply reply ≡ true → IsSome reply
+some-reply None is = absurd (false≢true is)
+some-reply (Some reply) is = refl
+
 -- its part has a task, and the last one has its reply
 pub Merges-ends : (first left rest : List Place) (before parts : List Part) (tasks : List Task)
     (number : ℕ) → left ≡ rest ++ Worker number ∷ [] → Merges first left before parts tasks
@@ -173,9 +177,9 @@ Merges-ends first left rest before parts tasks number is m =
     let count = ap (λ (ps : List Place). length (filter (is_at number) ps)) is
     ∙ at-yes number rest (Worker number) (eq_self number) in
     let ends = last-of items (omega (arith, many, count)) in
-    let replied : IsReplied ends.1 = all-at IsReplied ends.0 ends.1 []
-    (subst (AllByRecursion IsReplied) ends.2 (m.answered.replied number)) in
-    (ends.0, ends.1, ends.2, subst IsSome (sym replied.is) refl)
+    let replied : HasReply ends.1 = all-at HasReply ends.0 ends.1 []
+    (subst (AllByRecursion HasReply) ends.2 (m.answered.replied number)) in
+    (ends.0, ends.1, ends.2, some-reply ends.1.reply replied)
 
 module _ (left rest : List Place) (parts : List Part) (number : ℕ) (part : Part) (items : List Task)
     (last : Task) (is : left ≡ rest ++ Worker number ∷ []) (lt : number < length parts)
@@ -217,11 +221,11 @@ module _ (left rest : List Place) (parts : List Part) (number : ℕ) (part : Par
         (eq_not number other (λ e. ne (sym e))))
         ∙ ap (λ (ps : List Place). length (filter (is_at other) ps)) (sym is) ∙ a.many other
         ∙ ap (λ (p : Part). length (tasks_here p)) (sym (now-there other ne)));
-    replied = by-worker (λ w. AllByRecursion IsReplied (tasks_here (part_of now w)))
-        (subst (AllByRecursion IsReplied) (sym (ap tasks_here now-here ∙ has-here part items has))
-        (All-front IsReplied items (last ∷ [])
-        (subst (AllByRecursion IsReplied) was (a.replied number))))
-        (λ other ne. subst (λ (p : Part). AllByRecursion IsReplied (tasks_here p))
+    replied = by-worker (λ w. AllByRecursion HasReply (tasks_here (part_of now w)))
+        (subst (AllByRecursion HasReply) (sym (ap tasks_here now-here ∙ has-here part items has))
+        (All-front HasReply items (last ∷ [])
+        (subst (AllByRecursion HasReply) was (a.replied number))))
+        (λ other ne. subst (λ (p : Part). AllByRecursion HasReply (tasks_here p))
         (sym (now-there other ne)) (a.replied other));
   }
 

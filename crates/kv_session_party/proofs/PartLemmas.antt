@@ -41,11 +41,14 @@ good-all Closed framed low = refl
 good-all (StampsSpent number) framed low = refl
 good-all (Malformed offset) framed low = refl
 
+-- such a task has a reply, which is a good one
+pub has-reply : (task : Task) → IsReplied task → has_reply task.reply ≡ true
+has-reply task is = ap has_reply is.is ∙ good-all is.reply is.framed is.stamp
+
 have-all : (items : List Task) → AllByRecursion IsReplied items → have_replies items ≡ true
 have-all [] all = refl
 have-all (item ∷ items) all = and-both (has_reply item.reply) (have_replies items)
-    (ap has_reply all.0.is ∙ good-all all.0.reply all.0.framed all.0.stamp)
-    (have-all items all.1)
+    (has-reply item all.0) (have-all items all.1)
 
 eq-true : (m n : ℕ) → m ≡ n → nat_eq m n ≡ true
 eq-true m n e = grind (arith, nat_tests)

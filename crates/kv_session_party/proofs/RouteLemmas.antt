@@ -3,7 +3,7 @@ use Rattle.std.proofs.Common.{◌≡◌, ◌≢◌, ◌⊎◌, inl, inr, ⊎_eli
 use Rattle.std.proofs.Common.{◌∷◌, ◌++◌, length, reverse, Option, None, Some, Bool, true, false, cond}
 use Rattle.std.proofs.Common.{get_or, set, nat_eq, refl, sym, ap, ◌∙◌, subst, subst₂, arith}
 use Rattle.std.proofs.Common.{append_assoc, length-append}
-use Rattle.std.specs.Prelude.{not, is_some, ◌&&◌, IsSome, IfSome, filter, Result, Ok, OnOk}
+use Rattle.std.specs.Prelude.{not, is_some, ◌&&◌, IsSome, IfSome, filter, Result, Ok, OnOk, MatchOption}
 use Rattle.std.specs.List.{AllByRecursion}
 use Rattle.std.proofs.lemmas.Bool.{false≢true}
 use Rattle.std.proofs.lemmas.Bool.Decides.{nat_tests}
@@ -16,7 +16,7 @@ use Rattle.kv_base.specs.declared.request.Request.{Request}
 use Rattle.kv_model.specs.Pairs.{key_of}
 use Rattle.kv_parties.specs.Setting.{IsOwned, owns}
 use Rattle.kv_ring.specs.declared.task.Task.{Task}
-use Rattle.kv_session_party.specs.Routes.{RoutesState, IsRouted, ArePlaces, IsPlace, IsPlaced, IsKept}
+use Rattle.kv_session_party.specs.Routes.{IsPut, RoutesState, IsRouted, ArePlaces, IsPlace, IsPlaced, IsKept}
 use Rattle.kv_session_party.specs.Routes.{AreKept, IsRoutable, HasTasks, AddsTask, part_of, part_for}
 use Rattle.kv_session_party.specs.Routes.{goes_to, no_part, unrouted}
 use Rattle.kv_session_party.specs.declared.part.Part.{Part}
@@ -196,6 +196,18 @@ routes-placed task g later place none some placed places =
       λ tasks r. routed-worker tasks g later task.request number placed.2.0 some placed.0 placed.1
           places placed.2.1 placed.2.2 r,
     )
+
+pub routes-put : (task : Task) (g later : RoutesState) (place : Place) → IsRoutable task
+    → IsPut g.parts later.parts task place → later.places ≡ g.places ++ place ∷ []
+    → RoutesOne task g later
+routes-put task g later place routable put places = by task.reply refl put
+  where
+    by : (o : Option Reply) → task.reply ≡ o
+        → MatchOption o (IsPlaced g.parts later.parts task.request place)
+        (λ own. (later.parts ≡ g.parts) × (place ≡ Own own)) → RoutesOne task g later
+    by None none is = routes-placed task g later place none (routable none) is places
+    by (Some reply) own is = routes-own task g later reply own
+        (places ∙ ap (λ (p : Place). g.places ++ p ∷ []) is.1) is.0
 
 -- the parts stay as many
 pub placed-size : (request : Request) (parts later : List Part) (place : Place)

@@ -1,59 +1,59 @@
 -- The greatest stamp of a list of replies.
-use Rattle.std.proofs.Common.{◌≡◌, ℕ, ◌≤◌, List, [], ◌∷◌, ◌++◌, map, Option, None, Some, refl, sym, ap}
-use Rattle.std.proofs.Common.{◌∙◌, subst, arith, append_assoc}
-use Rattle.std.specs.List.{AllByRecursion}
-use Rattle.std.proofs.lemmas.List.{append-nil}
+use Rattle.std.proofs.Common.{◌≡◌, ℕ, ◌<◌, ◌≤◌, ◌^◌, List, [], ◌∷◌, map, Option, None, Some, refl, sym, ap}
+use Rattle.std.proofs.Common.{◌∙◌, subst, arith}
+use Rattle.std.specs.Prelude.{max, unwrap_or, IfSome}
+use Rattle.std.specs.List.{AllByRecursion, filter_map, cons_option}
 use Rattle.kv_base.specs.declared.reply.Reply.{Reply}
-use Rattle.kv_model.proofs.PairwiseLemmas.{All-append, All-map}
 use Rattle.kv_model.specs.Pairs.{stamp_of}
 use Rattle.kv_ring.specs.declared.task.Task.{Task}
-use Rattle.kv_session_party.specs.Party.{AreSeen}
 use Rattle.kv_session.specs.Tasks.{HaveReplies}
+use Rattle.kv_session_party.specs.Asking.{greatest}
+use Rattle.kv_session_party.specs.Party.{greatest_in, stamp_in}
 
--- the stamp of the task's reply, if there is one, is at most the number
-abbrev pub IsSeen : ℕ → Task → Type 0
-IsSeen high task = (reply : Reply) (stamp : ℕ) → task.reply ≡ Some reply
-    → stamp_of reply ≡ Some stamp → stamp ≤ high
+max-zero : (n : ℕ) → max n 0 ≡ n
+max-zero n = omega arith
 
--- the tasks before those that are left were seen
-pub record SeenUpTo (first left : List Task) (high : ℕ) : Type 0 where
-  pub front : List Task
-  pub parts : first ≡ front ++ left
-  pub seen : AllByRecursion (IsSeen high) front
+greatest-step : (stamp : Option ℕ) (seen : ℕ) (numbers : List ℕ)
+    → greatest (max seen (unwrap_or stamp 0)) numbers ≡ greatest seen (cons_option stamp numbers)
+greatest-step None seen numbers = ap (λ n. greatest n numbers) (max-zero seen)
+greatest-step (Some stamp) seen numbers = refl
 
-pub SeenUpTo-none : (first : List Task) (high : ℕ) → SeenUpTo first first high
-SeenUpTo-none first high = record { front = []; parts = refl; seen = tt }
-
-pub SeenUpTo-more : (first left later : List Task) (task : Task) (high higher : ℕ)
-    → left ≡ task ∷ later → high ≤ higher → IsSeen higher task → SeenUpTo first left high
-    → SeenUpTo first later higher
-SeenUpTo-more first left later task high higher is up seen u = record {
-  front = u.front ++ task ∷ [];
-  parts = u.parts ∙ ap (λ (ts : List Task). u.front ++ ts) is
-      ∙ sym (append_assoc u.front (task ∷ []) later);
-  seen = All-append (IsSeen higher) u.front (task ∷ [])
-      (All-map (IsSeen high) (IsSeen higher) u.front
-      (λ t low reply stamp replied stamped.
-      let le = low reply stamp replied stamped in omega (arith, le, up)) u.seen) (seen, tt);
-}
-
-are-seen : (high : ℕ) (tasks : List Task) (replies : List Reply) → HaveReplies tasks replies
-    → AllByRecursion (IsSeen high) tasks → AreSeen high replies
-are-seen high tasks [] have all = tt
-are-seen high [] (reply ∷ replies) have all = absurd (cc)
-are-seen high (task ∷ tasks) (reply ∷ replies) have all = (
-  λ stamp stamped. all.0 reply stamp (head have) stamped,
-  are-seen high tasks replies (tail have) all.1,
-)
+-- the greatest stamp of the tasks is that of their replies
+pub greatest-replies : (seen : ℕ) (tasks : List Task) (replies : List Reply)
+    → HaveReplies tasks replies → greatest_in seen tasks ≡ greatest seen (filter_map stamp_of replies)
+greatest-replies seen [] [] have = refl
+greatest-replies seen [] (reply ∷ replies) have = absurd (cc)
+greatest-replies seen (task ∷ tasks) [] have = absurd (cc)
+greatest-replies seen (task ∷ tasks) (reply ∷ replies) have =
+    ap (λ (o : Option Reply). greatest_in (max seen (stamp_in o)) tasks) head
+    ∙ greatest-replies (max seen (unwrap_or (stamp_of reply) 0)) tasks replies tail
+    ∙ greatest-step (stamp_of reply) seen (filter_map stamp_of replies)
   where
-    head : HaveReplies (task ∷ tasks) (reply ∷ replies) → task.reply ≡ Some reply
-    head e = cc
+    head : task.reply ≡ Some reply
+    head = cc
 
-    tail : HaveReplies (task ∷ tasks) (reply ∷ replies) → HaveReplies tasks replies
-    tail e = cc
+    tail : HaveReplies tasks replies
+    tail = cc
 
-pub SeenUpTo-all : (first left : List Task) (high : ℕ) (replies : List Reply) → left ≡ []
-    → HaveReplies first replies → SeenUpTo first left high → AreSeen high replies
-SeenUpTo-all first left high replies none have u = are-seen high first replies have
-    (subst (AllByRecursion (IsSeen high)) (sym (u.parts
-    ∙ ap (λ (ts : List Task). u.front ++ ts) none ∙ append-nil u.front)) u.seen)
+low-max : (limit a b : ℕ) → a < limit → b < limit → max a b < limit
+low-max limit a b la lb = omega (arith, la, lb)
+
+pub greatest-low : (limit seen : ℕ) (numbers : List ℕ) → seen < limit
+    → AllByRecursion (λ n. n < limit) numbers → greatest seen numbers < limit
+greatest-low limit seen [] low all = low
+greatest-low limit seen (n ∷ numbers) low all =
+    greatest-low limit (max seen n) numbers (low-max limit seen n low all.0) all.1
+
+pub stamps-low : (replies : List Reply)
+    → AllByRecursion (λ reply. IfSome (stamp_of reply) (λ stamp. stamp < 2 ^ 62)) replies
+    → AllByRecursion (λ n. n < 2 ^ 62) (filter_map stamp_of replies)
+stamps-low [] all = tt
+stamps-low (reply ∷ replies) all = by (stamp_of reply) all.0
+  where
+    more : AllByRecursion (λ n. n < 2 ^ 62) (filter_map stamp_of replies)
+    more = stamps-low replies all.1
+
+    by : (o : Option ℕ) → IfSome o (λ stamp. stamp < 2 ^ 62)
+        → AllByRecursion (λ n. n < 2 ^ 62) (cons_option o (filter_map stamp_of replies))
+    by None low = more
+    by (Some stamp) low = (low, more)

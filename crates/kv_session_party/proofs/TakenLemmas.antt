@@ -1,7 +1,7 @@
 -- The tasks of a group as they were routed, and the frames of its replies.
-use Rattle.std.proofs.Common.{◌≡◌, ◌⊎◌, inl, inr, ℕ, List, [], ◌∷◌, Option, None, Some, Bool, true, false}
+use Rattle.std.proofs.Common.{◌≡◌, ◌⊎◌, inl, inr, ℕ, ◌<◌, ◌^◌, List, [], ◌∷◌, Option, None, Some, Bool, true, false}
 use Rattle.std.proofs.Common.{cond, nat_eq, refl, sym, ap, ◌∙◌, subst, arith}
-use Rattle.std.specs.Prelude.{IsSome, MatchOption}
+use Rattle.std.specs.Prelude.{IsSome, IfSome, MatchOption}
 use Rattle.std.specs.List.{AllByRecursion}
 use Rattle.kv_base.specs.declared.reply.Reply.{Reply}
 use Rattle.kv_base.specs.declared.reply.Reply.TheVariants.{BadKey, TooLarge, NoMemory}
@@ -9,7 +9,7 @@ use Rattle.kv_base.specs.declared.request.Request.{Request}
 use Rattle.kv_model.specs.Agreement.{refusal_of}
 use Rattle.kv_model.specs.Frames.{HasReplyFrame}
 use Rattle.kv_model.specs.Layout.{all_classes}
-use Rattle.kv_model.specs.Pairs.{key_of}
+use Rattle.kv_model.specs.Pairs.{key_of, stamp_of}
 use Rattle.kv_ring.specs.declared.task.Task.{Task}
 use Rattle.kv_session_party.specs.Routes.{IsKept, AreKept, IsRoutable, unrouted, ArePlaces, IsPlace, HaveOwn}
 use Rattle.kv_session_party.specs.Routes.{IsOwn, replies_at, is_at}
@@ -65,49 +65,54 @@ taken-routable (q ∷ asked) (t ∷ tasks) taken =
 
 -- ---- frames
 
-frame-no_memory : HasReplyFrame NoMemory
-frame-no_memory = record { body = tt; size = omega arith }
+-- the reply goes into a frame, and its stamp, if it carries one, is below 2 ^ 62
+abbrev pub IsFramed : Reply → Type 0
+IsFramed reply = HasReplyFrame reply × IfSome (stamp_of reply) (λ stamp. stamp < 2 ^ 62)
 
-frame-bad_key : HasReplyFrame BadKey
-frame-bad_key = record { body = tt; size = omega arith }
+framed-no_memory : IsFramed NoMemory
+framed-no_memory = (record { body = tt; size = omega arith }, tt)
 
-frame-too_large : HasReplyFrame TooLarge
-frame-too_large = record { body = tt; size = omega arith }
+framed-bad_key : IsFramed BadKey
+framed-bad_key = (record { body = tt; size = omega arith }, tt)
+
+framed-too_large : IsFramed TooLarge
+framed-too_large = (record { body = tt; size = omega arith }, tt)
 
 -- the replies of the other places
-replies-rest : (P : Reply → Type 0) (worker : ℕ) (place : Place) (places : List Place)
-    (reply : Reply) (merged : List Reply)
-    → AllByRecursion P (replies_at worker (place ∷ places) (reply ∷ merged))
-    → AllByRecursion P (replies_at worker places merged)
-replies-rest P worker place places reply merged all = by (is_at worker place) all
+replies-rest : (worker : ℕ) (place : Place) (places : List Place) (reply : Reply)
+    (merged : List Reply)
+    → AllByRecursion IsFramed (replies_at worker (place ∷ places) (reply ∷ merged))
+    → AllByRecursion IsFramed (replies_at worker places merged)
+replies-rest worker place places reply merged all = by (is_at worker place) all
   where
-    by : (b : Bool) → AllByRecursion P (cond b (reply ∷ replies_at worker places merged)
-        (replies_at worker places merged)) → AllByRecursion P (replies_at worker places merged)
+    by : (b : Bool) → AllByRecursion IsFramed (cond b (reply ∷ replies_at worker places merged)
+        (replies_at worker places merged))
+        → AllByRecursion IsFramed (replies_at worker places merged)
     by true every = every.1
     by false every = every
 
--- a reply has a frame: a worker's by what it answered, the session's own as each refusal
+-- a reply goes into a frame: a worker's by what it answered, the session's own as each refusal
 framed-one : (n : ℕ) (request : Request) (task : Task) (place : Place) (places : List Place)
     (reply : Reply) (merged : List Reply) → GoesOn request task ⊎ IsRefused request task
     → IsPlace n task place → IsOwn place reply
     → ((worker : ℕ)
-    → AllByRecursion HasReplyFrame (replies_at worker (place ∷ places) (reply ∷ merged)))
-    → HasReplyFrame reply
+    → AllByRecursion IsFramed (replies_at worker (place ∷ places) (reply ∷ merged)))
+    → IsFramed reply
 framed-one n request task (Worker number) places reply merged taken is own all =
-    (subst (λ b. AllByRecursion HasReplyFrame (cond b (reply ∷ replies_at number places merged)
+    (subst (λ b. AllByRecursion IsFramed (cond b (reply ∷ replies_at number places merged)
     (replies_at number places merged))) (eq_self number) (all number)).0
 framed-one n request task (Own kept) places reply merged (inl on) is own all =
     absurd (none-is kept (sym on.waits ∙ is))
 framed-one n request task (Own kept) places reply merged (inr refused) is own all =
-    subst HasReplyFrame (sym (own-reply n task (Own kept) reply refused.reply is own
-    refused.answered)) (refused-has HasReplyFrame frame-no_memory frame-bad_key frame-too_large
+    subst IsFramed (sym (own-reply n task (Own kept) reply refused.reply is own
+    refused.answered)) (refused-has IsFramed framed-no_memory framed-bad_key framed-too_large
     request refused.reply refused.cause)
 
 pub framed-all : (n : ℕ) (asked : List Request) (tasks : List Task) (places : List Place)
     (merged : List Reply) → AreTaken asked tasks → ArePlaces n tasks places
     → HaveOwn places merged
-    → ((worker : ℕ) → AllByRecursion HasReplyFrame (replies_at worker places merged))
-    → AllByRecursion HasReplyFrame merged
+    → ((worker : ℕ) → AllByRecursion IsFramed (replies_at worker places merged))
+    → AllByRecursion IsFramed merged
 framed-all n asked tasks [] [] taken are own all = tt
 framed-all n asked tasks [] (r ∷ merged) taken are own all = absurd own
 framed-all n asked tasks (p ∷ places) [] taken are own all = absurd own
@@ -116,5 +121,5 @@ framed-all n [] (t ∷ tasks) (p ∷ places) (r ∷ merged) taken are own all = 
 framed-all n (q ∷ asked) (t ∷ tasks) (p ∷ places) (r ∷ merged) taken are own all = (
   framed-one n q t p places r merged taken.0 are.0 own.0 all,
   framed-all n asked tasks places merged taken.1 are.1 own.1
-      (λ worker. replies-rest HasReplyFrame worker p places r merged (all worker)),
+      (λ worker. replies-rest worker p places r merged (all worker)),
 )

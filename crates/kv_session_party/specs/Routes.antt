@@ -2,7 +2,7 @@
 use Rattle.std.specs.Prelude.{◌≡◌, ℕ, ◌<◌, List, [], ◌∷◌, ◌++◌, length, filter, map, nat_eq}
 use Rattle.std.specs.Prelude.{◌^◌, nat_le, nat_lt}
 use Rattle.std.specs.Prelude.{Option, None, Some, Bool, true, false, not, is_some, ◌&&◌, ◌⊎◌, ⊤}
-use Rattle.std.specs.Prelude.{if◌then◌else◌, slice_index_or, slice_set, IsSome}
+use Rattle.std.specs.Prelude.{MatchOption, if◌then◌else◌, slice_index_or, slice_set, IsSome}
 use Rattle.std.specs.List.{AllByRecursion}
 use Rattle.kv_base.specs.Reserved.{Reserved}
 use Rattle.kv_base.specs.declared.reply.Reply.{Reply}
@@ -15,7 +15,6 @@ use Rattle.kv_parties.specs.Setting.{IsOwned, owns}
 use Rattle.kv_ring.specs.declared.message.Answer.{Answer}
 use Rattle.kv_ring.specs.declared.message.Answer.TheVariants as answer
 use Rattle.kv_ring.specs.declared.task.Task.{Task}
-use Rattle.kv_session_party.specs.Asking.{IsReplied}
 use Rattle.kv_session_party.specs.declared.part.Part.{Part}
 use Rattle.kv_session_party.specs.declared.part.Part.TheVariants.{Here, Away}
 use Rattle.kv_session_party.specs.declared.routes.Place.{Place}
@@ -125,6 +124,11 @@ IsPlaced parts new request (Worker number) = (number < length parts)
     × ((part : Part) × (new ≡ slice_set parts number part)
     × AddsTask true (part_of parts number) part (record { request = request; reply = None }))
 
+-- the task's reply is its place, or its request is placed
+abbrev pub IsPut : List Part → List Part → Task → Place → Type 0
+IsPut parts new task place = MatchOption task.reply (IsPlaced parts new task.request place)
+    (λ own. (new ≡ parts) × (place ≡ Own own))
+
 -- the tasks, if there are any
 abbrev pub some_tasks : List Task → Reserved Task → Option (Reserved Task)
 some_tasks [] tasks = None
@@ -170,6 +174,10 @@ is_good (reply.Malformed offset) = true
 abbrev pub has_reply : Option Reply → Bool
 has_reply None = false
 has_reply (Some reply) = is_good reply
+
+-- the task has such a reply
+abbrev pub HasReply : Task → Type 0
+HasReply task = has_reply task.reply ≡ true
 
 -- each task has such a reply
 abbrev pub have_replies : List Task → Bool
@@ -252,7 +260,7 @@ pub record AreAnswered (places : List Place) (parts : List Part) : Type 0 where
   pub many : (worker : ℕ) → length (filter (is_at worker) places)
       ≡ length (tasks_here (part_of parts worker))
   pub replied : (worker : ℕ)
-      → AllByRecursion IsReplied (tasks_here (part_of parts worker))
+      → AllByRecursion HasReply (tasks_here (part_of parts worker))
 
 -- the last task has a reply
 abbrev pub EndsReplied : List Task → Type 0

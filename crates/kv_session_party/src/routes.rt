@@ -7,7 +7,7 @@ ghost use Rattle.kv_model.specs.Pairs.{key_of};
 ghost use Rattle.kv_parties.specs.Setting.{IsOwned};
 ghost use Rattle.kv_ring.specs.declared.task.Task.{Task as TaskOf};
 ghost use Rattle.kv_session.specs.Tasks.{HaveReplies};
-ghost use Rattle.kv_session_party.specs.Routes.{IsRouted, IsEmpty, IsRoutable, IsKept, AreKept, IsPlaced};
+ghost use Rattle.kv_session_party.specs.Routes.{IsRouted, IsEmpty, IsRoutable, IsKept, AreKept, IsPlaced, IsPut};
 ghost use Rattle.kv_session_party.specs.Routes.{part_of, tasks_out, part_out, is_away, part_after};
 ghost use Rattle.kv_session_party.specs.Asking.{IsReplied};
 ghost use Rattle.kv_session_party.specs.Routes.{is_taken, tasks_here, AreAnswered, IsMerged};
@@ -120,14 +120,8 @@ impl Routes {
         ensures size { length self.new.parts ≡ length self.old.parts }
         ensures many { length self.new.places ≡ length self.old.places + 1 }
     {
-        let Task { request, reply } = task;
-        match reply {
-            Some(reply) => self.places.append(Place::Own { reply }).unwrap(),
-            None => {
-                let place = place_task(&mut self.parts, request);
-                self.places.append(place).unwrap();
-            }
-        }
+        let place = place_task(&mut self.parts, task);
+        self.places.append(place).unwrap();
     }
 
     /// How many workers there are.
@@ -205,8 +199,22 @@ impl Routes {
     }
 }
 
+/// The place of the task: the session's where it has its reply, else that of its request.
+fn place_task(parts: &mut Vec<Part>, task: Task) -> Place
+    requires some { 1 ≤ length parts.old.items }
+    requires limit { length parts.old.items ≤ 16 }
+    requires routable { IsRoutable task }
+    ensures { IsPut parts.old.items parts.new.items task result }
+{
+    let Task { request, reply } = task;
+    match reply {
+        Some(reply) => Place::Own { reply },
+        None => place_request(parts, request),
+    }
+}
+
 /// Puts a task for the request behind those of the worker that owns its key.
-fn place_task(parts: &mut Vec<Part>, request: Request) -> Place
+fn place_request(parts: &mut Vec<Part>, request: Request) -> Place
     requires some { 1 ≤ length parts.old.items }
     requires limit { length parts.old.items ≤ 16 }
     requires keyed { IsSome (key_of request) }

@@ -9,7 +9,7 @@ loop-worker-init g c = ReceivesUpTo-none c.args.links.now c.args.routes.now
 pub loop-worker-preserved : goal.loop-worker-preserved
 loop-worker-preserved g c = subst (λ b. ReceivesUpTo c.args.links.now c.args.routes.now
     c.receive_from-came.new.links c.receive_from-came.new.routes (c.loop-worker.worker + 1) b)
-    (sym c.either.ensures)
+    (sym c.either-moved.ensures)
     (ReceivesUpTo-more c.args.links.now c.args.routes.now c.loop-worker.links
     c.receive_from-came.new.links c.loop-worker.routes c.receive_from-came.new.routes
     c.loop-worker.worker c.loop-worker.moved c.receive_from-came.result

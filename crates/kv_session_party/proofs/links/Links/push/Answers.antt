@@ -11,7 +11,7 @@ loop-worker-preserved g c =
     let size = c.len-worker-end.ensures in
     let same = c.loop-worker.invariant.size in
     let ok = c.args.self.now.unsent.ok in
-    subst (λ b. PushesUpTo _ _ (c.loop-worker.worker + 1) b) (sym c.either.ensures)
+    subst (λ b. PushesUpTo _ _ (c.loop-worker.worker + 1) b) (sym c.either-moved.ensures)
     (PushesUpTo-more _ _ _ c.loop-worker.worker c.index_mut.result.now
     c.send_waiting-sent.new.waiting (omega (arith, test, size, same, ok)) c.index_mut.ensures.value
     c.send_waiting-sent.ensures.sent refl c.loop-worker.moved c.send_waiting-sent.result

@@ -19,13 +19,13 @@ use Rattle.kv_ring.specs.declared.task.Task.{Task}
 use Rattle.kv_session_party.specs.Routes.{RoutesState, IsRouted, ArePlaces, HasTasks, part_of}
 use Rattle.kv_session_party.specs.Routes.{tasks_here, is_away, is_at, no_part}
 use Rattle.kv_session_party.specs.Routes.{replies_in, replies_at, IsOwn, HaveOwn, IsMerged}
-use Rattle.kv_session_party.specs.Routes.{IsKnown, AreAnswered, HasReply, has_reply, EndsReplied, IsReady, RepliesAt}
+use Rattle.kv_session_party.specs.Routes.{IsBare, is_bare, IsKnown, AreAnswered, HasReply, has_reply, EndsReplied, IsReady, RepliesAt}
 use Rattle.kv_session.specs.Tasks.{HaveReplies}
 use Rattle.kv_session_party.specs.declared.part.Part.{Part}
 use Rattle.kv_session_party.specs.declared.part.Part.TheVariants.{Here, Away}
 use Rattle.kv_session_party.specs.declared.routes.Place.{Place}
 use Rattle.kv_session_party.specs.declared.routes.Place.TheVariants.{Own, Worker}
-use Rattle.kv_session_party.proofs.RouteLemmas.{eq_self, eq_not, same_or_not, all-at}
+use Rattle.kv_session_party.proofs.RouteLemmas.{eq_self, eq_not, same_or_not, all-at, none-long}
 
 -- a task that has this reply and nothing else
 abbrev pub answered_task : Reply → Task
@@ -44,10 +44,6 @@ has-not_away (Away count) items has = absurd has
 pub here-has : (part : Part) → is_away part ≡ false → HasTasks part (tasks_here part)
 here-has (Here tasks) here = refl
 here-has (Away count) here = absurd (cc)
-
-none-long : {X : Type 0} (xs : List X) → length xs ≡ 0 → xs ≡ []
-none-long [] e = refl
-none-long (x ∷ xs) e = absurd (omega (arith, e))
 
 -- the elements but the last, and the last
 pub last-of : {X : Type 0} (xs : List X) → 1 ≤ length xs
@@ -299,6 +295,10 @@ Merges-more first left rest before parts new tasks (Worker number) reply is repl
 
 -- ---- its end
 
+bare-of : (part : Part) → is_away part ≡ false → tasks_here part ≡ [] → is_bare part ≡ true
+bare-of (Here tasks) here none = ap (λ (ts : List Task). nat_eq (length ts) 0) none
+bare-of (Away count) here none = absurd (false≢true (sym here))
+
 map-reverse : {X Y : Type 0} (f : X → Y) (xs : List X) → map f (reverse xs) ≡ reverse (map f xs)
 map-reverse f [] = refl
 map-reverse f (x ∷ xs) = ap (map f) (reverse-append (x ∷ []) xs)
@@ -353,10 +353,9 @@ module _ (first left : List Place) (before parts : List Part) (tasks : List Task
       ∙ sym (length-reverse m.backward) ∙ HaveOwn-length m.done (reverse m.backward) m.merged.own
       ∙ ap length done-is
 
-  pub Merges-empty : (g : RoutesState) → g.places ≡ left → g.parts ≡ parts → IsRouted [] g
-  Merges-empty g places is = record {
-    places = subst (ArePlaces (length g.parts) []) (sym (places ∙ none)) tt;
-    parts = λ worker lt. subst (λ (ps : List Part). HasTasks (part_of ps worker) []) (sym is)
-        (subst (HasTasks (part_of parts worker)) (used-up worker)
-        (here-has (part_of parts worker) (m.answered.here worker)));
+  pub Merges-bare : (g : RoutesState) → g.places ≡ left → g.parts ≡ parts → IsBare g
+  Merges-bare g places is = record {
+    places = ap length (places ∙ none);
+    parts = λ worker. subst (λ (ps : List Part). is_bare (part_of ps worker) ≡ true) (sym is)
+        (bare-of (part_of parts worker) (m.answered.here worker) (used-up worker));
   }

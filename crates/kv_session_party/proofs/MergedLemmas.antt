@@ -33,7 +33,7 @@ use Rattle.kv_session.specs.Tasks.{AreTaken, GoesOn, IsRefused}
 use Rattle.kv_session_party.specs.Asking.{IsHandled, HaveSeen, seen_behind, greatest, message_of}
 use Rattle.kv_session_party.specs.Asking.{IsReplied, SessionPromise}
 use Rattle.kv_session_party.specs.Promise.{Keeps, StandsIn, IsOwed, handled_by}
-use Rattle.kv_session_party.specs.Routes.{RoutesState, IsEmpty, IsMerged, ArePlaces, IsPlace, HaveOwn}
+use Rattle.kv_session_party.specs.Routes.{RoutesState, IsMerged, ArePlaces, IsPlace, HaveOwn}
 use Rattle.kv_session_party.specs.Routes.{IsOwn, part_of, part_for, goes_to, is_at, replies_at}
 use Rattle.kv_session_party.specs.Routes.{replies_in, tasks_here, is_away}
 use Rattle.kv_session_party.specs.declared.part.Part.{Part}
@@ -317,7 +317,7 @@ module _ {F : Type 0} (setting : Setting) (sent : ℕ → List (Ask F))
     (m : IsMerged routes.places
     (λ worker. replies_in (tasks_here (part_of routes.parts worker))) merged)
     (up : high ≡ greatest seen (filter_map stamp_of merged)) (limit : high < 2 ^ 62)
-    (empty : IsEmpty after) (size : length after.parts ≡ length routes.parts)
+    (size : length after.parts ≡ length routes.parts)
     (k : Keeps setting sent received groups seen routes asked true) where
   abbrev n : ℕ
   n = setting.workers
@@ -415,7 +415,7 @@ module _ {F : Type 0} (setting : Setting) (sent : ℕ → List (Ask F))
         ∙ ap (λ s. greatest s (stamps (exchange_pairs exchange))) k.seen_is
         ∙ sym (seen-push 0 k.promise.asks.exchanges exchange);
     limit = limit;
-    way = record { none = refl; empty = empty };
+    way = refl;
     size = size ∙ k.size;
   }
 
@@ -455,7 +455,7 @@ module _ {F : Type 0} (setting : Setting) (sent : ℕ → List (Ask F))
         ∙ ap (λ (hs : List Handled). greatest seen (stamps (map (λ (x : Handled). x.pair) hs)))
         nothing ∙ k.seen_is;
     limit = limit;
-    way = record { none = refl; empty = empty };
+    way = refl;
     size = size ∙ k.size;
   }
 

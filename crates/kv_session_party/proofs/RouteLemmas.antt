@@ -16,6 +16,7 @@ use Rattle.kv_base.specs.declared.request.Request.{Request}
 use Rattle.kv_model.specs.Pairs.{key_of}
 use Rattle.kv_parties.specs.Setting.{IsOwned, owns}
 use Rattle.kv_ring.specs.declared.task.Task.{Task}
+use Rattle.kv_session_party.specs.Routes.{IsBare, is_bare}
 use Rattle.kv_session_party.specs.Routes.{IsPut, RoutesState, IsRouted, ArePlaces, IsPlace, IsPlaced, IsKept}
 use Rattle.kv_session_party.specs.Routes.{AreKept, IsRoutable, HasTasks, AddsTask, part_of, part_for}
 use Rattle.kv_session_party.specs.Routes.{goes_to, no_part, unrouted}
@@ -237,6 +238,35 @@ pub all-at : {X : Type 0} (P : X → Type 0) (xs : List X) (y : X) (ys : List X)
 all-at P [] y ys all = all.0
 all-at P (x ∷ xs) y ys all = all-at P xs y ys all.1
 
+-- ---- no task
+
+pub none-long : {X : Type 0} (xs : List X) → length xs ≡ 0 → xs ≡ []
+none-long [] e = refl
+none-long (x ∷ xs) e = absurd (omega (arith, e))
+
+zero-eq : (n : ℕ) → nat_eq n 0 ≡ true → n ≡ 0
+zero-eq n e = grind (arith, nat_tests)
+
+bare-has : (part : Part) → is_bare part ≡ true → HasTasks part []
+bare-has (Here tasks) bare = none-long tasks.items (zero-eq (length tasks.items) bare)
+bare-has (Away count) bare = absurd (false≢true bare)
+
+pub bare-routed : (routes : RoutesState) → IsBare routes → IsRouted [] routes
+bare-routed routes bare = record {
+  places = subst (ArePlaces (length routes.parts) []) (sym (none-long routes.places bare.places)) tt;
+  parts = λ worker lt. bare-has (part_of routes.parts worker) (bare.parts worker);
+}
+
+-- behind one part more that has no task
+pub bare-more : (parts : List Part) (part : Part)
+    → ((worker : ℕ) → is_bare (part_of parts worker) ≡ true) → is_bare part ≡ true
+    → (worker : ℕ) → is_bare (part_of (parts ++ part ∷ []) worker) ≡ true
+bare-more [] part bare is zero = is
+bare-more [] part bare is (suc worker) = refl
+bare-more (p ∷ parts) part bare is zero = bare zero
+bare-more (p ∷ parts) part bare is (suc worker) =
+    bare-more parts part (λ other. bare (suc other)) is worker
+
 -- the first tasks are routed, and the others are left, the last one first
 pub record Splits (first left : List Task) (routes : RoutesState) (count : ℕ) : Type 0 where
   pub done : List Task
@@ -247,13 +277,13 @@ pub record Splits (first left : List Task) (routes : RoutesState) (count : ℕ) 
   pub size : length routes.parts ≡ count
 
 pub Splits-new : (first left : List Task) (routes : RoutesState) → left ≡ reverse first
-    → IsRouted [] routes → Splits first left routes (length routes.parts)
-Splits-new first left routes is empty = record {
+    → IsBare routes → Splits first left routes (length routes.parts)
+Splits-new first left routes is bare = record {
   done = [];
   kept = [];
   parts = sym (ap reverse is ∙ reverse-reverse first);
   are = tt;
-  routed = empty;
+  routed = bare-routed routes bare;
   size = refl;
 }
 

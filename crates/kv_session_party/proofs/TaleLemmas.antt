@@ -23,7 +23,7 @@ use Rattle.kv_session.specs.declared.ending.Ending.{Ending}
 use Rattle.kv_session_party.specs.Asking.{IsReplied, greatest}
 use Rattle.kv_session_party.specs.Exchanges.{message_for, part_behind_came}
 use Rattle.kv_session_party.specs.Promise.{Tells, Keeps, HasCourse, IsServed, IsOnWay}
-use Rattle.kv_session_party.specs.Routes.{RoutesState, IsRouted, IsEmpty, IsMerged, AreAnswered}
+use Rattle.kv_session_party.specs.Routes.{RoutesState, IsRouted, IsMerged, AreAnswered}
 use Rattle.kv_session_party.specs.Routes.{tasks_out, part_out, part_of, part_for, tasks_here, is_away}
 use Rattle.kv_session_party.specs.Routes.{is_taken, replies_in, replies_at, no_part}
 use Rattle.kv_session_party.specs.declared.part.Part.{Part}
@@ -116,7 +116,7 @@ module _ {So Si F : Type 0} (streams : Streams So Si) (setting : Setting) (sourc
         → Tells streams setting source sink now later hears seen after true
     Tells-asked old now sent later received hears seen before routes after asked tasks layout going
         gathered taken few r many told heard parts places size t =
-        let none : t.asked ≡ [] = t.keeps.way.none in
+        let none : t.asked ≡ [] = t.keeps.way in
         record {
           groups = t.groups;
           asked = asked;
@@ -172,14 +172,14 @@ module _ {So Si F : Type 0} (streams : Streams So Si) (setting : Setting) (sourc
         → ((worker : ℕ) → is_away (part_of routes.parts worker) ≡ false)
         → IsMerged routes.places (λ worker. replies_in (tasks_here (part_of routes.parts worker)))
         merged
-        → high ≡ greatest seen (filter_map stamp_of merged) → IsEmpty after
+        → high ≡ greatest seen (filter_map stamp_of merged)
         → length after.parts ≡ length routes.parts
         → (t : Tells streams setting source sink old sent received seen routes true)
         → AllByRecursion (λ request. IsSome (key_of request)) t.asked
         → Delivers streams source sink (with_pairs t.groups (pairs_of t.asked merged)) old.closing now
         whole
         → Tells streams setting source sink now sent received high after false
-    Tells-merged old now sent received seen high routes after merged whole layout here m up empty
+    Tells-merged old now sent received seen high routes after merged whole layout here m up
         size t keyed delivered =
         let framed : AllByRecursion IsFramed merged = keeps-framed setting sent received t.groups seen
         routes t.asked here t.keeps merged m in
@@ -191,7 +191,7 @@ module _ {So Si F : Type 0} (streams : Streams So Si) (setting : Setting) (sourc
           groups = with_pairs t.groups (pairs_of t.asked merged);
           asked = [];
           keeps = keeps-merged setting sent received t.groups seen high routes after t.asked merged
-              layout keyed here m up low empty size t.keeps;
+              layout keyed here m up low size t.keeps;
           course = course-of now (with_pairs t.groups (pairs_of t.asked merged)) old.closing whole
               delivered;
         }

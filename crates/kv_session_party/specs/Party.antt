@@ -35,7 +35,7 @@ ends_reading (EndingOf cause) = true
 -- where a message waits for a worker, its tasks are away
 abbrev pub WaitsAway : {F : Type 0} → Links F → RoutesState → Type 0
 WaitsAway links routes = (worker : ℕ) → is_away (part_of routes.parts worker) ≡ false
-    → waiting_for links worker ≡ None
+    → is_some (waiting_for links worker) ≡ false
 
 -- the stamp that the reply carries, 0 where there is none
 abbrev pub stamp_in : Option Reply → ℕ

@@ -21,7 +21,7 @@ use Rattle.kv_session.specs.Session.{SessionState}
 use Rattle.kv_session.specs.Tasks.{AreTaken}
 use Rattle.kv_session.specs.declared.ending.Ending.{Ending}
 use Rattle.kv_session_party.specs.Asking.{SessionPromise, IsReplied, message_of, seen_behind}
-use Rattle.kv_session_party.specs.Routes.{RoutesState, IsEmpty, ArePlaces, HasTasks, part_for}
+use Rattle.kv_session_party.specs.Routes.{RoutesState, ArePlaces, HasTasks, part_for}
 use Rattle.kv_session_party.specs.Routes.{part_of, replies_in}
 use Rattle.kv_session_party.specs.declared.part.Part.{Part}
 use Rattle.kv_session_party.specs.declared.part.Part.TheVariants.{Here, Away}
@@ -39,11 +39,6 @@ StandsIn (task ∷ tasks) coming (Away count) = (coming ≡ [])
     × (count ≡ length (task ∷ tasks))
 StandsIn (task ∷ tasks) coming (Here answer) = (coming ≡ replies_in answer.items ∷ [])
     × (length answer.items ≡ length (task ∷ tasks)) × AllByRecursion IsReplied answer.items
-
--- no group is on its way
-pub record IsQuiet (routes : RoutesState) (asked : List Request) : Type 0 where
-  pub none : asked ≡ []
-  pub empty : IsEmpty routes
 
 module _ {F : Type 0} where
   -- the last message is the group of these many tasks, and all before it were answered
@@ -80,7 +75,7 @@ module _ {F : Type 0} where
   -- the group of these requests is on its way, or none is
   abbrev pub StandsOut : Bool → Setting → ℕ → (ℕ → List (Ask F)) → (ℕ → List (Answer F))
       → (ℕ → List Asked) → (ℕ → List (List Reply)) → RoutesState → List Request → Type 0
-  StandsOut false setting seen sent heard asking coming routes asked = IsQuiet routes asked
+  StandsOut false setting seen sent heard asking coming routes asked = asked ≡ []
   StandsOut true setting seen sent heard asking coming routes asked =
       IsOnWay setting seen sent heard asking coming routes asked
 

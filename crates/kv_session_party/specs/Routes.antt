@@ -86,9 +86,15 @@ pub record IsRouted (tasks : List Task) (routes : RoutesState) : Type 0 where
   pub parts : (worker : ℕ) → worker < length routes.parts
       → HasTasks (part_of routes.parts worker) (part_for (length routes.parts) worker tasks)
 
+-- the part is here and has no task
+abbrev pub is_bare : Part → Bool
+is_bare (Here tasks) = nat_eq (length tasks.items) 0
+is_bare (Away count) = false
+
 -- the group has no request, and each part is here and has no task
-abbrev pub IsEmpty : RoutesState → Type 0
-IsEmpty routes = IsRouted [] routes
+pub record IsBare (routes : RoutesState) : Type 0 where
+  pub places : length routes.places ≡ 0
+  pub parts : (worker : ℕ) → is_bare (part_of routes.parts worker) ≡ true
 
 -- the task has a reply, or is about a key
 abbrev pub IsRoutable : Task → Type 0

@@ -1,8 +1,9 @@
-ghost use Rattle.std.specs.Prelude.{◌≡◌, ◌≤◌, [], None, true, false, length, is_some};
+ghost use Rattle.std.specs.Prelude.{◌≡◌, ◌≤◌, true, false, length, is_some, not, ◌||◌};
 ghost use Rattle.kv_parties.specs.Setting.{Setting};
 ghost use Rattle.kv_ring.specs.Ends.{peers};
 ghost use Rattle.kv_session_party.specs.Links.{told_to, heard_from};
-ghost use Rattle.kv_session_party.specs.Party.{WaitsAway};
+ghost use Rattle.kv_session_party.specs.Party.{WaitsAway, ends_reading};
+ghost use Rattle.kv_session_party.specs.Routes.{IsBare};
 ghost use Rattle.kv_session.specs.Passage.{Streams};
 ghost use Rattle.kv_session_party.specs.Promise.{IsServed, Tells};
 
@@ -54,13 +55,14 @@ pub struct SessionParty<So: Source, Si: Sink, F> {
     first: Snapshot<Session<So, Si>>,
     ghost size: { length routes.parts ≡ peers links.ends },
     ghost few: { length routes.places ≤ 64 },
-    ghost idle: { tasks.items ≡ [] },
+    ghost idle: { length tasks.items ≡ 0 },
     ghost room: { 64 ≤ tasks.spare },
     ghost ended: { over ≡ is_some session.ending },
     ghost closed: { read_all ≡ is_some session.closing },
     ghost reads: { over ≡ false → waiting ≡ false → read_all ≡ false },
     ghost rests: { over ≡ true → waiting ≡ false },
     ghost away: { over ≡ false → WaitsAway links routes },
+    ghost bare: { waiting ≡ false → IsBare routes },
     ghost promise: { let streams : Streams So Si = record {
       stream = So.stream;
       source_faults = So.faults;
@@ -284,7 +286,7 @@ impl<So: Source + Drop, Si: Sink + Drop, F: Drop> SessionParty<So, Si, F> {
         self.seen = greatest(self.tasks.as_slice(), self.seen);
         self.waiting = false;
         let whole = self.session.deliver(&mut self.tasks);
-        self.over = self.read_all || !whole;
+        self.over = ends(self.read_all, whole);
     }
 
     /// Tells the workers where the session has ended.
@@ -394,4 +396,11 @@ fn ends_reading(gathered: Gathered) -> bool
         Gathered::More => false,
         Gathered::Ending { cause: _ } => true,
     }
+}
+
+/// Whether a session ends behind replies: reading has ended, or they didn't all go out.
+fn ends(read_all: bool, whole: bool) -> bool
+    ensures { result ≡ (read_all || not whole) }
+{
+    read_all || !whole
 }

@@ -7,7 +7,7 @@ ghost use Rattle.kv_model.specs.Pairs.{key_of};
 ghost use Rattle.kv_parties.specs.Setting.{IsOwned};
 ghost use Rattle.kv_ring.specs.declared.task.Task.{Task as TaskOf};
 ghost use Rattle.kv_session.specs.Tasks.{HaveReplies};
-ghost use Rattle.kv_session_party.specs.Routes.{IsRouted, IsEmpty, IsRoutable, IsKept, AreKept, IsPlaced, IsPut};
+ghost use Rattle.kv_session_party.specs.Routes.{IsRouted, IsBare, IsRoutable, IsKept, AreKept, IsPlaced, IsPut};
 ghost use Rattle.kv_session_party.specs.Routes.{part_of, tasks_out, part_out, is_away, part_after};
 ghost use Rattle.kv_session_party.specs.Asking.{IsReplied};
 ghost use Rattle.kv_session_party.specs.Routes.{is_taken, tasks_here, AreAnswered, IsMerged};
@@ -78,7 +78,8 @@ impl Routes {
     pub fn new(alloc: Global, workers: u32) -> Result<Routes, NoMemory>
         requires some { 1 ≤ workers }
         requires limit { workers ≤ 16 }
-        ensures { IfOk result (λ routes. IsEmpty routes × (length routes.parts ≡ workers)) }
+        ensures bare { IfOk result IsBare }
+        ensures count { IfOk result (λ routes. length routes.parts ≡ workers) }
     {
         let mut parts = Vec::with_capacity(alloc, workers as usize)?;
         for _made in 0..workers {
@@ -95,7 +96,7 @@ impl Routes {
     /// other one goes to the worker that owns its key, or is answered NoMemory where there is none
     /// for it.
     pub fn split(&mut self, tasks: &mut Tasks)
-        requires empty { IsEmpty self.old }
+        requires bare { IsBare self.old }
         requires few { length tasks.old.items ≤ 64 }
         requires routable { AllByRecursion IsRoutable tasks.old.items }
         ensures routed { (kept : List TaskOf) × AreKept tasks.old.items kept
@@ -186,7 +187,7 @@ impl Routes {
         ensures merged { (replies : List ReplyOf) × HaveReplies tasks.new.items replies
             × IsMerged self.old.places
             (λ worker. replies_in (tasks_here (part_of self.old.parts worker))) replies }
-        ensures empty { IsEmpty self.new }
+        ensures bare { IsBare self.new }
         ensures size { length self.new.parts ≡ length self.old.parts }
         ensures spare { tasks.new.spare + length tasks.new.items ≡ tasks.old.spare }
         ensures many { length tasks.new.items ≡ length self.old.places }

@@ -1,13 +1,14 @@
 use Rattle.std.proofs.Common.{◌≡◌, ◌++◌, ◌∷◌, [], List, length, refl, sym, ap, ◌∙◌, subst, arith}
 use Rattle.std.proofs.Common.{length-append}
 use Rattle.std.proofs.lemmas.Bool.{false≢true}
+use Rattle.std.proofs.lemmas.List.{append-nil}
 use Rattle.kv_ring.specs.declared.task.Task.{Task}
 use Rattle.kv_session.specs.Tasks.{HaveReplies}
 use Rattle.kv_session_party.specs.Routes.{RoutesState, AreAnswered, IsMerged, replies_in, tasks_here}
 use Rattle.kv_session_party.specs.Routes.{part_of}
 use Rattle.kv_session_party.specs.declared.routes.Place.{Place}
 use Rattle.kv_session_party.proofs.MergeLemmas.{Merges, Merges-new, Merges-ready, Merges-more}
-use Rattle.kv_session_party.proofs.MergeLemmas.{Merges-all, Merges-many}
+use Rattle.kv_session_party.proofs.MergeLemmas.{Merges-all, Merges-many, Merges-bare}
 use Rattle.kv_session_party.proofs.RouteLemmas.{none-left, ok-then}
 use Rattle.kv_session_party.proofs.routes.Routes.merge.Goals as goal
 
@@ -82,3 +83,10 @@ returns-clause-many c = ap length c.turn_round.ensures.items
     (none-left c.loop-place.self-inside.places.items
     (λ some. false≢true (c.in_default.ensures.some.1 some))) c.loop-place.invariant.merges
     ∙ ap (λ (s : RoutesState). length s.places) c.self.view_is
+
+pub returns-clause-bare : goal.returns-clause-bare
+returns-clause-bare c = Merges-bare c.self.inside.places.items c.loop-place.self-inside.places.items
+    c.self.inside.parts.items c.loop-place.self-inside.parts.items c.loop-place.tasks.items
+    (none-left c.loop-place.self-inside.places.items
+    (λ some. false≢true (c.in_default.ensures.some.1 some))) c.loop-place.invariant.merges _
+    (sym (c.in_default.ensures.last ∙ append-nil c.take_last.new.self.items)) refl

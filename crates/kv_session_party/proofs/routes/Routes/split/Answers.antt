@@ -8,7 +8,7 @@ use Rattle.kv_session_party.proofs.routes.Routes.split.Goals as goal
 pub loop-task-init : goal.loop-task-init
 loop-task-init c = record {
   splits = Splits-new c.args.tasks.now.items c.turn_round.new.tasks.items c.args.self.now
-      c.turn_round.ensures.items c.requires.empty;
+      c.turn_round.ensures.items c.requires.bare;
   spare = omega (arith, c.turn_round.ensures.many, c.turn_round.ensures.spare);
 }
 

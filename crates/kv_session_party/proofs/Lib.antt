@@ -14,3 +14,4 @@ pub mod SeenLemmas
 pub mod KeyedLemmas
 pub mod TakenLemmas
 pub mod AnsweredLemmas
+pub mod PartyLemmas

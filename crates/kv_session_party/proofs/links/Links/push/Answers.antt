@@ -1,5 +1,5 @@
-use Rattle.std.proofs.Common.{◌≡◌, ◌+◌, refl, sym, subst, arith}
-use Rattle.kv_session_party.proofs.LinkLemmas.{PushesUpTo, PushesUpTo-none, PushesUpTo-more}
+use Rattle.std.proofs.Common.{refl, arith}
+use Rattle.kv_session_party.proofs.LinkLemmas.{PushesUpTo-none, PushesUpTo-more}
 use Rattle.kv_session_party.proofs.links.Links.push.Goals as goal
 
 pub loop-worker-init : goal.loop-worker-init
@@ -11,8 +11,8 @@ loop-worker-preserved g c =
     let size = c.len-worker-end.ensures in
     let same = c.loop-worker.invariant.size in
     let ok = c.args.self.now.unsent.ok in
-    subst (λ b. PushesUpTo _ _ (c.loop-worker.worker + 1) b) (sym c.either-moved.ensures)
-    (PushesUpTo-more _ _ _ c.loop-worker.worker c.index_mut.result.now
+    rw c.either-moved.ensures
+    (PushesUpTo-more _ c.loop-worker.self _ c.loop-worker.worker c.index_mut.result.now
     c.send_waiting-sent.new.waiting (omega (arith, test, size, same, ok)) c.index_mut.ensures.value
     c.send_waiting-sent.ensures.sent refl c.loop-worker.moved c.send_waiting-sent.result
     c.send_waiting-sent.ensures.moved c.loop-worker.invariant)

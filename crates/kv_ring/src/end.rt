@@ -27,6 +27,7 @@ impl<S, R> End<S, R> {
         ensures unsent { OnErr result (sent self.new.out ≡ sent self.old.out) }
         ensures full { OnErr result (known_free self.new.out ≡ 0) }
         ensures place { 0 < known_free self.old.out → IsOk result }
+        ensures one { OnOk result (known_free self.old.out ≤ known_free self.new.out + 1) }
         ensures first { length (sent self.old.out) < 2 → IsOk result }
         ensures back { self.new.back ≡ self.old.back }
     {

@@ -52,9 +52,10 @@ impl<S, R, const MOST: u32> Ends<S, R, MOST> {
         ensures unsent { OnErr result ((other : ℕ) → sent_to self.new other
             ≡ sent_to self.old other) }
 
-        // Where a place was known, it is taken; the first two always are.
+        // Where a place was known, one alone is taken; the first two always are.
         ensures full { OnErr result (places_to self.new peer ≡ 0) }
         ensures place { 0 < places_to self.old peer → IsOk result }
+        ensures one { OnOk result (places_to self.old peer ≤ places_to self.new peer + 1) }
         ensures first { length (sent_to self.old peer) < 2 → IsOk result }
         ensures others { (other : ℕ) → other ≢ peer → places_to self.new other
             ≡ places_to self.old other }

@@ -35,6 +35,8 @@ fn left<S, R>(near: &mut End<S, R>, far: &mut End<R, S>) -> u32
     ensures back { sent far.new.out ≡ received near.new.back ++ known_items near.new.back }
     ensures there_places { 2 ≤ known_free near.new.out + length (known_items far.new.back) }
     ensures back_places { 2 ≤ known_free far.new.out + length (known_items near.new.back) }
+    ensures few { (length (known_items far.new.back) ≤ 2)
+        × (length (known_items near.new.back) ≤ 2) }
     ensures value { result ≡ length (known_items far.new.back)
         + length (known_items near.new.back) }
 {
@@ -44,9 +46,9 @@ fn left<S, R>(near: &mut End<S, R>, far: &mut End<R, S>) -> u32
 }
 
 /// How many messages are left in the two rings between a session and a worker, whose ends of one
-/// mesh these are. On each ring, what was sent is what was received and then what is left; until
-/// the next pop the receiver knows of all that is left, and until the next push the sender of each
-/// free place. Nothing is sent or received. Takes no memory.
+/// mesh these are. On each ring, what was sent is what was received and then what is left, at most
+/// two messages; until the next pop the receiver knows of all that is left, and until the next push
+/// the sender of each free place. Nothing is sent or received. Takes no memory.
 pub fn left_between<F>(
     session_ends: &mut SessionEnds<F>,
     session: u32,
@@ -62,6 +64,8 @@ pub fn left_between<F>(
     ensures answers { HasAll worker_ends.new session session_ends.new worker }
     ensures asks_places { KnowsPlaces session_ends.new worker worker_ends.new session }
     ensures answers_places { KnowsPlaces worker_ends.new session session_ends.new worker }
+    ensures few { (length (known_from worker_ends.new session) ≤ 2)
+        × (length (known_from session_ends.new worker) ≤ 2) }
     ensures value { result ≡ length (known_from worker_ends.new session)
         + length (known_from session_ends.new worker) }
 {

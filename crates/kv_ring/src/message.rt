@@ -1,8 +1,8 @@
 use crate::task::Tasks;
 use kv_base::{Bytes, Reply};
 
-/// What a session sends to a worker. All but `Bye` have an answer, and the session sends no second
-/// one before it.
+/// What a session sends to a worker. All but `Bye` want an answer. A ring keeps the order of the
+/// messages alone: which may follow which is for the parties to promise.
 #[derive(Debug, Drop)]
 pub enum Ask<F> {
     /// Requests of one group whose keys the worker owns.

@@ -1,4 +1,4 @@
-use crate::{Answer, Ask, SessionEnds, WorkerEnds, left_between, mesh};
+use crate::{Answer, Ask, SessionEnds, Turn, WorkerEnds, WorkerSide, left_between, mesh};
 use std::alloc::Global;
 use std::process::Abort;
 
@@ -124,10 +124,18 @@ fn what_is_left_is_counted(rt: HostRuntime) {
     let back = worker.push(0, Answer::Dropped).is_ok();
     assert!(rt; first && second && back);
     assert_eq!(rt;
-        left_between(session, 0, worker, 0),
+        worker.left_beside(session, 0, 0),
         3,
         "two messages and an answer"
     );
     assert!(rt; matches!(worker.pop(0), Some(Ask::Drop)));
     assert_eq!(rt; left_between(session, 0, worker, 0), 2);
+}
+
+#[test]
+fn an_ended_party_is_ended_whatever_moved(rt: HostRuntime) {
+    assert!(rt; matches!(Turn::of(true, true), Turn::Ended));
+    assert!(rt; matches!(Turn::of(true, false), Turn::Ended));
+    assert!(rt; matches!(Turn::of(false, true), Turn::Moved));
+    assert!(rt; matches!(Turn::of(false, false), Turn::Idle));
 }

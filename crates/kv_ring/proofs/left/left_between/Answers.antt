@@ -1,4 +1,4 @@
-use Rattle.std.proofs.Common.{◌≡◌, ◌++◌, ◌+◌, ◌≤◌, ℕ, List, [], length, refl, sym, ap, ◌∙◌, ap₂, subst₂}
+use Rattle.std.proofs.Common.{◌++◌, ◌+◌, ◌≤◌, [], length, refl, sym, ◌∙◌, ap₂, subst₂}
 use Rattle.rtrb.specs.Ring.{sent, received, known_free, known_items}
 use Rattle.kv_ring.proofs.PlaceLemmas.{at-set_here}
 use Rattle.kv_ring.proofs.LookLemmas.{looked-at}
@@ -54,3 +54,11 @@ returns-clause-value g c = c.left.ensures.value ∙ sym (ap₂ (λ xs ys. length
     c.index_mut-2.result.now c.left.new.far c.requires.session c.index_mut-2.ensures.value [])
     (at-set_here (λ end. known_items end.back) c.args.session_ends.now.ends.items c.args.worker
     c.index_mut.result.now c.left.new.near c.requires.worker c.index_mut.ensures.value []))
+
+pub returns-clause-few : goal.returns-clause-few
+returns-clause-few g c = subst₂ (λ xs ys. (length xs ≤ 2) × (length ys ≤ 2))
+    (sym (at-set_here (λ end. known_items end.back) c.args.worker_ends.now.ends.items c.args.session
+    c.index_mut-2.result.now c.left.new.far c.requires.session c.index_mut-2.ensures.value []))
+    (sym (at-set_here (λ end. known_items end.back) c.args.session_ends.now.ends.items c.args.worker
+    c.index_mut.result.now c.left.new.near c.requires.worker c.index_mut.ensures.value []))
+    c.left.ensures.few

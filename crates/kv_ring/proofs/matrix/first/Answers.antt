@@ -1,4 +1,4 @@
-use Rattle.std.proofs.Common.{◌≡◌, [], ◌∷◌, sym, subst, arith, All}
+use Rattle.std.proofs.Common.{[], ◌∷◌, sym, subst, arith, All}
 use Rattle.std.proofs.lemmas.List.Elements.{All-append, All-from_recursion}
 use Rattle.kv_ring.specs.Lines.{IsNew}
 use Rattle.kv_ring.specs.Matrix.{HasNew}

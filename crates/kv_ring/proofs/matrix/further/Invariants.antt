@@ -1,4 +1,4 @@
-use Rattle.std.proofs.Common.{◌≡◌, ℕ, ◌≤◌, List, map, get_or, vec_len, All, Some}
+use Rattle.std.proofs.Common.{◌≡◌, ℕ, ◌≤◌, map, get_or, vec_len, All, Some}
 use Rattle.kv_ring.specs.Lines.{line_of, other_side, IsNew}
 use Rattle.kv_ring.specs.Ends.{all_lines}
 use Rattle.kv_ring.specs.Matrix.{beside, HasNew}

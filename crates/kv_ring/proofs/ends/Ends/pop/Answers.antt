@@ -1,11 +1,10 @@
-use Rattle.std.proofs.Common.{◌≡◌, ◌∷◌, ℕ, ◌<◌, List, ap, sym, ◌∙◌, subst, subst₂, refl, get_or}
+use Rattle.std.proofs.Common.{◌≡◌, ◌∷◌, ap, sym, subst, subst₂, refl, get_or}
 use Rattle.std.specs.Prelude.{IfSome, IfNone, []}
 use mathlib.Core.List.{IsPrefix}
 use Rattle.std.proofs.lemmas.List.{length-set}
 use Rattle.std.specs.Prelude.{Some, None}
 use Rattle.rtrb.specs.Ring.{sent, received, known_free, known_items}
 use Rattle.kv_ring.specs.Lines.{line_of}
-use Rattle.kv_ring.specs.declared.end.End.{End}
 use Rattle.kv_ring.proofs.PlaceLemmas.{at-was, at-set_here, at-set_there, at-set_more}
 use Rattle.kv_ring.proofs.PlaceLemmas.{map-exchange_same}
 use Rattle.kv_ring.proofs.ends.Ends.pop.Goals as goal

@@ -1,5 +1,5 @@
-use Rattle.std.proofs.Common.{◌≡◌, ◌++◌, ◌∷◌, [], ℕ, ◌<◌, length, get_or, ap, sym, ◌∙◌, subst}
-use Rattle.std.specs.Prelude.{IsOk, OnOk, OnErr}
+use Rattle.std.proofs.Common.{[], ◌<◌, ◌≤◌, ◌+◌, length, get_or, ap, sym, ◌∙◌, subst, subst₂}
+use Rattle.std.specs.Prelude.{IsOk}
 use Rattle.std.proofs.lemmas.List.{length-set}
 use Rattle.std.specs.Prelude.{Some, None}
 use Rattle.rtrb.specs.Ring.{sent, received, known_free, known_items}
@@ -32,6 +32,15 @@ returns-clause-place g c =
     (sym (at-was (λ end. known_free end.out) c.args.self.now.ends.items c.args.peer
     c.index_mut.result.now c.push-pushed.new.self c.requires c.index_mut.ensures.value 0))
     c.push-pushed.ensures.place
+
+pub returns-clause-one : goal.returns-clause-one
+returns-clause-one g c =
+    let was = at-was (λ end. known_free end.out) c.args.self.now.ends.items c.args.peer
+    c.index_mut.result.now c.push-pushed.new.self c.requires c.index_mut.ensures.value 0 in
+    let now = at-set_here (λ end. known_free end.out) c.args.self.now.ends.items c.args.peer
+    c.index_mut.result.now c.push-pushed.new.self c.requires c.index_mut.ensures.value 0 in
+    on_ok_weaker c.push-pushed.result
+    (subst₂ (λ places left. places ≤ left + 1) (sym was) (sym now)) c.push-pushed.ensures.one
 
 pub returns-clause-first : goal.returns-clause-first
 returns-clause-first g c =

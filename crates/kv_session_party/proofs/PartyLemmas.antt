@@ -101,7 +101,7 @@ pub away-received : {F : Type 0} (links new : Links F) (routes after : RoutesSta
     → Receives links new routes after moved → WaitsAway links routes → WaitsAway new after
 away-received links new routes after moved r away worker here =
     let same : waiting_for new worker ≡ waiting_for links worker =
-        ap (λ ws. get_or ws.items worker None) r.unsent in
+    ap (λ ws. get_or ws.items worker None) r.unsent in
     ap is_some same
     ∙ received-free (part_of routes.parts worker) (part_of after.parts worker) (r.came worker)
     (waiting_for links worker) ((r.each worker).part_is) ((r.each worker).unasked) (away worker) here
@@ -129,7 +129,7 @@ pub Tells-new : {So Si F : Type 0} (streams : Streams So Si) (setting : Setting)
     → Tells streams setting source sink now sent received 0 routes false
 Tells-new streams setting source sink now sent received routes none nothing size going read =
     let messages : (worker : ℕ) → all_asking (sent worker) ≡ [] = λ worker.
-        ap all_asking (none worker) in
+    ap all_asking (none worker) in
     record {
       groups = [];
       asked = [];

@@ -1,10 +1,10 @@
 -- A session's party, and what a turn of it does.
 use Rattle.std.specs.Prelude.{◌≡◌, ℕ, ◌+◌, ◌^◌, ◌<◌, ◌≤◌, List, [], length, Option, None, Some, Bool}
-use Rattle.std.specs.Prelude.{true, false, ◌||◌, not, is_some, IsSome, if◌then◌else◌, ◌∷◌, max, unwrap_or}
+use Rattle.std.specs.Prelude.{true, false, ◌||◌, ◌&&◌, not, is_some, IsSome, if◌then◌else◌, ◌∷◌, max, unwrap_or}
 use Rattle.kv_base.specs.declared.reply.Reply.{Reply}
 use Rattle.kv_model.specs.Pairs.{stamp_of}
-use Rattle.kv_session_party.specs.declared.turn.Turn.{Turn}
-use Rattle.kv_session_party.specs.declared.turn.Turn.TheVariants.{Moved, Idle, Ended}
+use Rattle.kv_ring.specs.Turn.{turn_of}
+use Rattle.kv_ring.specs.declared.turn.Turn.{Turn}
 use Rattle.kv_ring.specs.declared.message.Answer.{Answer}
 use Rattle.kv_ring.specs.declared.task.Task.{Task}
 use Rattle.kv_session_party.specs.Exchanges.{is_owed, Comes}
@@ -20,12 +20,7 @@ use Rattle.kv_session.specs.declared.gathered.Gathered.TheVariants.{More, Ending
 
 -- the session has ended, and no message waits
 abbrev pub is_over : {F : Type 0} → Option Ending → Links F → Bool
-is_over None links = false
-is_over (Some ending) links = not (any_waits links.unsent.items)
-
--- the party has ended, went on, or had nothing to do
-abbrev pub turn_of : Bool → Bool → Turn
-turn_of over moved = if over then Ended else (if moved then Moved else Idle)
+is_over ending links = is_some ending && not (any_waits links.unsent.items)
 
 -- the group ended with the reading
 abbrev pub ends_reading : Gathered → Bool

@@ -11,7 +11,5 @@ mod routes;
 mod send;
 #[cfg(test)]
 mod tests;
-mod turn;
 
 pub use party::{PartyParts, SessionParty};
-pub use turn::Turn;

@@ -3,7 +3,7 @@ ghost use Rattle.kv_ring.specs.Ends.{peers};
 
 use crate::send::{either, no_messages, send, send_waiting};
 use kv_base::NoMemory;
-use kv_ring::{Answer, Ask, SessionEnds, WorkerEnds, left_between};
+use kv_ring::{Answer, Ask, SessionEnds, WorkerSide};
 use std::alloc::Global;
 
 /// A session's ends of its rings, and for each worker the message that waits for a place in its
@@ -17,9 +17,9 @@ pub struct Links<F> {
 
 impl<F: Drop> Links<F> {
     ghost use Rattle.std.specs.Prelude.{◌≡◌, ◌≢◌, ℕ, ◌<◌, ◌+◌, [], ◌∷◌, ◌++◌, None, IfOk, IfErr};
-    ghost use Rattle.std.specs.Prelude.{is_some, option_to_list, length};
-    ghost use Rattle.kv_ring.specs.Ends.{peers, SameRings, only_at, known_from, AreBetween, Looked};
-    ghost use Rattle.kv_ring.specs.Ends.{HasAll, KnowsPlaces};
+    ghost use Rattle.std.specs.Prelude.{is_some, option_to_list};
+    ghost use Rattle.kv_ring.specs.Comparing.{Compares};
+    ghost use Rattle.kv_ring.specs.Ends.{peers, SameRings, only_at, AreBetween};
     ghost use Rattle.kv_ring.specs.declared.message.Ask.TheVariants as ask;
     ghost use Rattle.kv_session_party.specs.Links.{told_to, heard_from, coming_from, waiting_for};
     ghost use Rattle.kv_session_party.specs.Links.{Pushes, any_waits, any_went};
@@ -123,27 +123,22 @@ impl<F: Drop> Links<F> {
     }
 
     /// How many messages are left in the two rings between this session and a worker, with the
-    /// worker's ends. Nothing is sent or received.
-    pub fn left_between(
+    /// worker's side. Nothing is sent or received.
+    pub fn left_between<W: WorkerSide<F>>(
         &mut self,
         session: u32,
-        worker_ends: &mut WorkerEnds<F>,
+        worker_side: &mut W,
         worker: u32,
     ) -> u32
         requires worker { worker < peers self.old.ends }
-        requires session { session < peers worker_ends.old }
-        requires rings { AreBetween self.old.ends session worker_ends.old worker }
-        ensures session_ends { Looked worker self.old.ends self.new.ends }
-        ensures worker_ends { Looked session worker_ends.old worker_ends.new }
-        ensures asks { HasAll self.new.ends worker worker_ends.new session }
-        ensures answers { HasAll worker_ends.new session self.new.ends worker }
-        ensures asks_places { KnowsPlaces self.new.ends worker worker_ends.new session }
-        ensures answers_places { KnowsPlaces worker_ends.new session self.new.ends worker }
-        ensures value { result ≡ length (known_from worker_ends.new session)
-            + length (known_from self.new.ends worker) }
+        requires session { session < peers (W.ends worker_side.old) }
+        requires rings { AreBetween self.old.ends session (W.ends worker_side.old) worker }
+        ensures compared { Compares self.old.ends self.new.ends session (W.ends worker_side.old)
+            (W.ends worker_side.new) worker result }
+        ensures stays { W.Stays worker_side.old worker_side.new }
         ensures unsent { self.new.unsent ≡ self.old.unsent }
     {
-        left_between(&mut self.ends, session, worker_ends, worker)
+        worker_side.left_beside(&mut self.ends, session, worker)
     }
 
     /// Gives the ends back. A message that waits is dropped.

@@ -11,10 +11,10 @@ use crate::exchange::{ask, receive};
 use crate::greatest::greatest;
 use crate::links::Links;
 use crate::routes::Routes;
-use crate::turn::Turn;
+use crate::send::either;
 use kv_base::{NoMemory, ReservedList, Sink, Source};
 use kv_model::groups_hold_requests;
-use kv_ring::{SessionEnds, Tasks, WorkerEnds};
+use kv_ring::{SessionEnds, Tasks, Turn, WorkerSide};
 use kv_session::{Ending, Gathered, Session};
 use kv_stamps::{StampSeat, Stamps};
 use std::alloc::Global;
@@ -76,9 +76,9 @@ pub struct SessionParty<So: Source, Si: Sink, F> {
 impl<So: Source + Drop, Si: Sink + Drop, F: Drop> SessionParty<So, Si, F> {
     ghost use Rattle.std.specs.Prelude.{◌≡◌, ◌↔◌, ℕ, ◌+◌, ◌<◌, ◌≤◌, ◌^◌, min, length, IfOk, IfErr};
     ghost use Rattle.std.specs.Prelude.{[], None, true, false, not, ◌≢◌};
-    ghost use Rattle.kv_ring.specs.Ends.{peers, known_from, IsFresh, AreBetween, SameRings, Looked};
-    ghost use Rattle.kv_ring.specs.Ends.{HasAll, KnowsPlaces};
-    ghost use Rattle.kv_session_party.specs.declared.turn.Turn.TheVariants as turn;
+    ghost use Rattle.kv_ring.specs.Comparing.{Compares};
+    ghost use Rattle.kv_ring.specs.Ends.{peers, IsFresh, AreBetween, SameRings};
+    ghost use Rattle.kv_ring.specs.declared.turn.Turn.TheVariants as turn;
     ghost use Rattle.kv_session.specs.Session.{KeepsReading};
     ghost use Rattle.kv_session_party.specs.Exchanges.{Receives};
     ghost use Rattle.kv_session_party.specs.Links.{waiting_for, heard_from, coming_from};
@@ -152,18 +152,14 @@ impl<So: Source + Drop, Si: Sink + Drop, F: Drop> SessionParty<So, Si, F> {
     {
         let pushed = self.links.push();
         let moved = self.go_on();
-        if self.over {
-            return if self.links.waits() {
-                Turn::Moved
-            } else {
-                Turn::Ended
-            };
-        }
-        if pushed || moved {
-            Turn::Moved
-        } else {
-            Turn::Idle
-        }
+        Turn::of(self.is_over(), either(pushed, moved))
+    }
+
+    /// Whether the session has ended and no message waits.
+    fn is_over(&self) -> bool
+        ensures { result ≡ is_over self.now.session.ending self.now.links }
+    {
+        self.over && !self.links.waits()
     }
 
     /// Reads a group, or takes the answers that are owed. The answer is whether it did more than
@@ -334,29 +330,24 @@ impl<So: Source + Drop, Si: Sink + Drop, F: Drop> SessionParty<So, Si, F> {
     }
 
     /// How many messages are left in the two rings between this session and a worker, with the
-    /// worker's ends. Nothing is sent or received. Takes no memory.
-    pub fn left_between(
+    /// worker's side. Nothing is sent or received. Takes no memory.
+    pub fn left_between<W: WorkerSide<F>>(
         &mut self,
         session: u32,
-        worker_ends: &mut WorkerEnds<F>,
+        worker_side: &mut W,
         worker: u32,
     ) -> u32
         requires worker { worker < peers self.old.links.ends }
-        requires session { session < peers worker_ends.old }
-        requires rings { AreBetween self.old.links.ends session worker_ends.old worker }
-        ensures session_ends { Looked worker self.old.links.ends self.new.links.ends }
-        ensures worker_ends { Looked session worker_ends.old worker_ends.new }
-        ensures asks { HasAll self.new.links.ends worker worker_ends.new session }
-        ensures answers { HasAll worker_ends.new session self.new.links.ends worker }
-        ensures asks_places { KnowsPlaces self.new.links.ends worker worker_ends.new session }
-        ensures answers_places { KnowsPlaces worker_ends.new session self.new.links.ends worker }
-        ensures value { result ≡ length (known_from worker_ends.new session)
-            + length (known_from self.new.links.ends worker) }
+        requires session { session < peers (W.ends worker_side.old) }
+        requires rings { AreBetween self.old.links.ends session (W.ends worker_side.old) worker }
+        ensures compared { Compares self.old.links.ends self.new.links.ends session
+            (W.ends worker_side.old) (W.ends worker_side.new) worker result }
+        ensures stays { W.Stays worker_side.old worker_side.new }
         ensures kept { (self.new.session ≡ self.old.session) × (self.new.seat ≡ self.old.seat)
             × (self.new.waiting ≡ self.old.waiting)
             × (self.new.first.value ≡ self.old.first.value) }
     {
-        self.links.left_between(session, worker_ends, worker)
+        self.links.left_between(session, worker_side, worker)
     }
 
     /// The parts. A message that waits to be sent is dropped.

@@ -1,6 +1,6 @@
 use super::*;
 use kv_base::{Bytes, Calls, Cause, MemSink, MemSource, NoMemory, Reply, Request};
-use kv_ring::{Answer, Ask, Task, Tasks, WorkerEnds, mesh};
+use kv_ring::{Answer, Ask, Task, Tasks, Turn, WorkerEnds, mesh};
 use kv_stamps::Stamps;
 use std::alloc::Global;
 use std::test::Fail;

@@ -1,28 +1,32 @@
 -- A session's party: what its messages that wait, its group and its end have to do with one another.
 use Rattle.std.proofs.Common.{◌≡◌, ℕ, zero, suc, ◌<◌, ◌≤◌, ◌^◌, List, [], ◌∷◌, ◌++◌, length, Option}
 use Rattle.std.proofs.Common.{get_or, None, Some, Bool, true, false, refl, sym, ap, ◌∙◌, subst, subst₂, arith}
-use Rattle.std.specs.Prelude.{◌↔◌, ◌||◌, ◌&&◌, not, is_some}
+use Rattle.std.specs.Prelude.{◌↔◌, ◌||◌, ◌&&◌, not, is_some, option_to_list}
 use Rattle.std.specs.List.{AllByRecursion}
 use Rattle.std.proofs.lemmas.Bool.{true≢false, false≢true}
+use Rattle.std.proofs.lemmas.List.{append-nil}
 use Rattle.kv_base.specs.Reserved.{Reserved}
 use Rattle.kv_base.specs.declared.cause.Cause.{Cause}
 use Rattle.kv_base.specs.declared.reply.Reply.{Reply}
 use Rattle.kv_model.specs.Layout.{all_classes}
 use Rattle.kv_parties.specs.Messages.{all_asking, groups_in}
 use Rattle.kv_parties.specs.Setting.{Setting}
+use Rattle.kv_ring.specs.Ends.{sent_to}
 use Rattle.kv_ring.specs.declared.message.Answer.{Answer}
 use Rattle.kv_ring.specs.declared.message.Ask.{Ask}
 use Rattle.kv_ring.specs.declared.task.Task.{Task}
 use Rattle.kv_session.specs.Passage.{Streams, HasRead}
-use Rattle.kv_session.specs.Session.{SessionState}
+use Rattle.kv_session.specs.Session.{SessionState, EndsGroup}
+use Rattle.kv_session.specs.declared.gathered.Gathered.{Gathered}
+use Rattle.kv_session.specs.declared.gathered.Gathered.TheVariants.{More, Ending as EndingOf}
 use Rattle.kv_session.specs.declared.ending.Ending.{Ending}
 use Rattle.kv_session_party.specs.Asking.{takes_message, Hears}
 use Rattle.kv_session_party.specs.Exchanges.{Asks, Receives, part_behind_came, is_owed}
-use Rattle.kv_session_party.specs.Links.{waiting_for}
-use Rattle.kv_session_party.specs.Party.{WaitsAway}
+use Rattle.kv_session_party.specs.Links.{waiting_for, told_to}
+use Rattle.kv_session_party.specs.Party.{WaitsAway, ends_reading}
 use Rattle.kv_session_party.specs.Promise.{Tells, HasCourse, IsServed}
 use Rattle.kv_session_party.specs.Routes.{RoutesState, IsBare, is_bare, is_away, part_of, part_out}
-use Rattle.kv_session_party.specs.Routes.{part_behind, tasks_out, some_tasks}
+use Rattle.kv_session_party.specs.Routes.{part_behind, tasks_out, some_tasks, all_here}
 use Rattle.kv_session_party.specs.declared.links.Links.{Links}
 use Rattle.kv_session_party.specs.declared.part.Part.{Part}
 use Rattle.kv_session_party.specs.declared.part.Part.TheVariants.{Here, Away}
@@ -52,6 +56,15 @@ over-is true whole (Some c) None is both =
     absurd (true≢false (of-none (Some c) ((both.0 refl).1)))
 over-is true whole (Some c) (Some e) is both = refl
 
+pub ends-closing : (gathered : Gathered) (closing : Option Cause) → EndsGroup gathered closing
+    → ends_reading gathered ≡ is_some closing
+ends-closing More closing ends = sym (of-none closing ends)
+ends-closing (EndingOf cause) closing ends = sym (ap is_some ends)
+
+pub or-first : (a b : Bool) → (a || b) ≡ false → a ≡ false
+or-first true b e = absurd (true≢false e)
+or-first false b e = refl
+
 -- ---- messages that wait
 
 bare-away : (part : Part) → is_bare part ≡ true → is_away part ≡ false
@@ -68,6 +81,15 @@ pub free-all : {F : Type 0} (links : Links F) (routes : RoutesState) → WaitsAw
     → waiting_for links worker ≡ None
 free-all links routes away here worker =
     none-of (waiting_for links worker) (away worker (here worker))
+
+all-bare : (parts : List Part) → ((worker : ℕ) → is_bare (part_of parts worker) ≡ true)
+    → all_here parts ≡ true
+all-bare [] bare = refl
+all-bare (part ∷ parts) bare = ap (λ b. not b && all_here parts) (bare-away part (bare zero))
+    ∙ all-bare parts (λ worker. bare (suc worker))
+
+pub bare-all_here : (routes : RoutesState) → IsBare routes → all_here routes.parts ≡ true
+bare-all_here routes bare = all-bare routes.parts bare.parts
 
 behind-none : (items : List Task) (tasks : Reserved Task)
     → is_away (part_behind items (Here tasks)) ≡ false → some_tasks items tasks ≡ None
@@ -105,6 +127,22 @@ away-received links new routes after moved r away worker here =
     ap is_some same
     ∙ received-free (part_of routes.parts worker) (part_of after.parts worker) (r.came worker)
     (waiting_for links worker) ((r.each worker).part_is) ((r.each worker).unasked) (away worker) here
+
+-- what was told stays where nothing was sent and what waits stays
+pub told-same : {F : Type 0} (links new : Links F)
+    → ((worker : ℕ) → sent_to new.ends worker ≡ sent_to links.ends worker)
+    → new.unsent ≡ links.unsent → (worker : ℕ) → told_to new worker ≡ told_to links worker
+told-same {F = F} links new sent unsent worker =
+    ap (λ ws. sent_to new.ends worker ++ option_to_list (get_or ws.items worker None)) unsent
+    ∙ ap (λ (ms : List (Ask F)). ms ++ option_to_list (waiting_for links worker)) (sent worker)
+
+-- fresh ends, where no message waits, have told nothing
+pub told-fresh : {F : Type 0} (links : Links F)
+    → ((worker : ℕ) → waiting_for links worker ≡ None)
+    → ((worker : ℕ) → sent_to links.ends worker ≡ []) → (worker : ℕ) → told_to links worker ≡ []
+told-fresh links none sent worker =
+    ap (λ o. sent_to links.ends worker ++ option_to_list o) (none worker)
+    ∙ append-nil (sent_to links.ends worker) ∙ sent worker
 
 -- ---- a session that took nothing so far
 

@@ -10,6 +10,7 @@ use Rattle.kv_base.specs.declared.request.Request.{Request}
 use Rattle.kv_model.proofs.PairwiseLemmas.{All-map}
 use Rattle.kv_model.specs.BatchLaws.{pairs_of}
 use Rattle.kv_model.specs.Frames.{HasReplyFrame}
+use Rattle.kv_model.specs.Groups.{GroupsHoldRequests}
 use Rattle.kv_model.specs.Layout.{all_classes}
 use Rattle.kv_model.specs.Pairs.{Pair, key_of, stamp_of}
 use Rattle.kv_parties.specs.Setting.{Setting}
@@ -29,7 +30,10 @@ use Rattle.kv_session_party.specs.Routes.{is_taken, replies_in, replies_at, no_p
 use Rattle.kv_session_party.specs.declared.part.Part.{Part}
 use Rattle.kv_session_party.proofs.AnsweredLemmas.{answered-all, come-replied, replied-framed}
 use Rattle.kv_session_party.proofs.ExchangeLemmas.{before_or_not}
-use Rattle.kv_session_party.proofs.MergedLemmas.{keeps-merged}
+use Rattle.kv_session_party.proofs.KeyedLemmas.{asked-keyed}
+use Rattle.kv_session_party.proofs.MergeLemmas.{HaveOwn-length}
+use Rattle.kv_session_party.proofs.MergedLemmas.{keeps-merged, AreTaken-length}
+use Rattle.kv_session_party.proofs.RouteLemmas.{ArePlaces-length}
 use Rattle.kv_session_party.proofs.PromiseLemmas.{TellsSame, tells-same, keeps-same, keeps-asked}
 use Rattle.kv_session_party.proofs.PromiseLemmas.{keeps-received}
 use Rattle.kv_session_party.proofs.SeenLemmas.{greatest-low, stamps-low}
@@ -195,3 +199,27 @@ module _ {So Si F : Type 0} (streams : Streams So Si) (setting : Setting) (sourc
           course = course-of now (with_pairs t.groups (pairs_of t.asked merged)) old.closing whole
               delivered;
         }
+
+    -- a reply came for each request of the group, and they were merged and written
+    pub Tells-replied : (law : GroupsHoldRequests) (old now : SessionState So Si)
+        (sent : ℕ → List (Ask F)) (received : ℕ → List (Answer F)) (seen high : ℕ)
+        (routes after : RoutesState) (merged : List Reply) (whole : Bool)
+        → setting.layout ≡ all_classes
+        → ((worker : ℕ) → is_away (part_of routes.parts worker) ≡ false)
+        → IsMerged routes.places (λ worker. replies_in (tasks_here (part_of routes.parts worker)))
+        merged → high ≡ greatest seen (filter_map stamp_of merged)
+        → length after.parts ≡ length routes.parts → old.ending ≡ None
+        → ((groups : List (List Pair)) (asked : List Request) → length merged ≡ length asked
+        → HasRead streams source sink groups asked old
+        → Delivers streams source sink (with_pairs groups (pairs_of asked merged)) old.closing now whole)
+        → Tells streams setting source sink old sent received seen routes true
+        → Tells streams setting source sink now sent received high after false
+    Tells-replied law old now sent received seen high routes after merged whole layout here m up size
+        going delivered t =
+        let read = course-read old t.groups t.asked true going t.course in
+        let many : length merged ≡ length t.asked = HaveOwn-length routes.places merged m.own
+        ∙ ArePlaces-length setting.workers t.keeps.way.tasks routes.places t.keeps.way.places
+        ∙ AreTaken-length t.asked t.keeps.way.tasks t.keeps.way.taken in
+        Tells-merged old now sent received seen high routes after merged whole layout here m up size t
+        (asked-keyed law streams source sink t.groups t.asked old read)
+        (delivered t.groups t.asked many read)

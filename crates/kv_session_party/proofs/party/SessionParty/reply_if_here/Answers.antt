@@ -1,18 +1,14 @@
-use Rattle.std.proofs.Common.{rules, ◌≡◌, ◌≤◌, true, false, length, is_some, not, ◌||◌, ◌↔◌, ℕ, ◌+◌, ◌<◌, ◌^◌, min, IfOk, IfErr, [], None, ◌≢◌, ◌-◌, ◌*◌, ◌/◌, ◌%◌, Bool, nat_eq, nat_lt, List, ◌∷◌, ◌++◌, slice_index_or, slice_set, bit_and, bit_or, Fits, w8, w32, w64, Bor, MutBor}
-use Rattle.kv_parties.specs.Setting.{Setting}
-use Rattle.kv_ring.specs.Ends.{peers, IsFresh, AreBetween, SameRings}
-use Rattle.kv_session_party.specs.Links.{told_to, heard_from, waiting_for, coming_from}
-use Rattle.kv_session_party.specs.Party.{WaitsAway, ends_reading, is_over, TurnsWaiting, TurnsReading, WaitsFor}
-use Rattle.kv_session_party.specs.Routes.{IsBare, all_here}
-use Rattle.kv_session.specs.Passage.{Streams}
-use Rattle.kv_session_party.specs.Promise.{IsServed, Tells}
-use Rattle.kv_ring.specs.Comparing.{Compares}
-use Rattle.kv_ring.specs.declared.turn.Turn.TheVariants as turn
-use Rattle.kv_session.specs.Session.{KeepsReading}
-use Rattle.kv_session_party.specs.Exchanges.{Receives}
-use Rattle.kv_stamps.specs.Steps.{Raises, Looks}
+use Rattle.std.proofs.Common.{◌≡◌, None, sym, ◌∙◌, subst}
+use Rattle.kv_session_party.specs.Links.{waiting_for}
+use Rattle.kv_session_party.proofs.AnsweredLemmas.{here-each}
+use Rattle.kv_session_party.proofs.PartyLemmas.{free-all}
 use Rattle.kv_session_party.proofs.party.SessionParty.reply_if_here.Goals as goal
 
--- src/party.rt:263:13
 pub say_bye-requires : goal.say_bye-requires
-say_bye-requires g c = ?
+say_bye-requires g c =
+    let old = c.args.self.now in
+    record {
+      free = λ worker. subst (λ links. waiting_for links worker ≡ None) (sym c.reply.ensures.links)
+          (free-all old.links old.routes (old.away c.requires.goes_on)
+          (here-each old.routes.parts (sym c.all_here.ensures ∙ c.if-all_here.true)) worker);
+    }

@@ -1,15 +1,14 @@
 -- Pairs that are the workers' own agree with one plain map.
 use Rattle.std.proofs.Common.{◌≡◌, ◌≢◌, ◌⊎◌, inl, inr, ⊎_elim, ℕ, ◌+◌, ◌-◌, ◌^◌, ◌<◌, ◌≤◌, List, []}
-use Rattle.std.proofs.Common.{◌∷◌, ◌++◌, map, Option, None, Some, Bool, true, false, cond, refl}
+use Rattle.std.proofs.Common.{◌∷◌, ◌++◌, Option, None, Some, Bool, refl}
 use Rattle.std.proofs.Common.{sym, ap, ◌∙◌, subst, arith}
-use Rattle.std.specs.Prelude.{nat_eq, MatchOption, IsTrue, is_some, IfSome, option_and_then}
-use Rattle.std.specs.List.{AllByRecursion, filter_map, cons_option}
+use Rattle.std.specs.Prelude.{MatchOption, IsTrue, is_some, IfSome, option_and_then}
+use Rattle.std.specs.List.{AllByRecursion, cons_option}
 use Rattle.std.proofs.lemmas.Bool.Decides.{nat_tests}
 use Rattle.kv_base.specs.declared.request.Request.{Request}
 use Rattle.kv_base.specs.declared.request.Request.TheVariants.{Put, Get, Delete}
 use Rattle.kv_base.specs.declared.reply.Reply.{Reply}
 use Rattle.kv_base.specs.declared.reply.Reply.TheVariants.{Stored, Found, Missing, Removed, Absent}
-use Rattle.kv_base.specs.declared.reply.Reply.TheVariants.{Unsure}
 use Rattle.kv_base.specs.Partition.{owner_of}
 use Rattle.kv_stamps.specs.Ranges.{among}
 use Rattle.kv_stamps.specs.declared.view.Range.{Range}
@@ -17,15 +16,16 @@ use Rattle.kv_model.specs.History.{Write, value_at}
 use Rattle.kv_model.specs.Pairwise.{Pairwise}
 use Rattle.kv_model.specs.Layout.{Layout}
 use Rattle.kv_model.specs.Pairs.{Pair, writes, stamps, written, key_of, stamp_of, acknowledged}
-use Rattle.kv_model.specs.Pairs.{acknowledged_by, unsure_by, unsure_writes}
-use Rattle.kv_model.specs.Agreement.{AgreesWithMap, IsAnswer, IsMapAnswer, IsRead, IsRefusal}
+use Rattle.kv_model.specs.Pairs.{acknowledged_by}
+use Rattle.kv_model.specs.Agreement.{AgreesWithMap, IsAnswer, IsMapAnswer, IsRead}
 use Rattle.kv_model.specs.Agreement.{refusal_of}
-use Rattle.kv_parties.specs.Rows.{sum_below, row}
+use Rattle.kv_parties.specs.Rows.{sum_below}
 use Rattle.kv_parties.specs.Setting.{Setting, IsOwned}
-use Rattle.kv_parties.specs.Joined.{IsBefore, all_before}
+use Rattle.kv_parties.specs.Begun.{IsBefore, all_before}
 use Rattle.kv_parties.proofs.Lists.{In, count, In-left, In-right, In-append, All-In, In-All}
 use Rattle.kv_parties.proofs.Lists.{In-filter_map, In-filter_map-back, In-row, In-row-back}
-use Rattle.kv_parties.proofs.Lists.{count-In, apart-count}
+use Rattle.kv_parties.proofs.Lists.{count-In, apart-count, sum_below-le}
+use Rattle.kv_parties.proofs.Owned.{IsHere, stampless, here_answers}
 use Rattle.kv_parties.proofs.Histories.{from_some, latest-same}
 
 -- an answer reads of the history what the request's key has
@@ -98,6 +98,26 @@ hits-one t pair e = ap (λ o. count t (cons_option o [])) e ∙ (grind (arith, n
 pub hits-none : (t : ℕ) (pair : Pair) → stamp_of pair.reply ≡ None → hits t pair ≡ 0
 hits-none t pair e = ap (λ o. count t (cons_option o [])) e
 
+-- the weights of all pairs, added up
+abbrev pub weigh : (Pair → ℕ) → List Pair → ℕ
+weigh f [] = 0
+weigh f (pair ∷ pairs) = f pair + weigh f pairs
+
+pub weigh-append : (f : Pair → ℕ) (ps qs : List Pair) → weigh f (ps ++ qs) ≡ weigh f ps + weigh f qs
+weigh-append f [] qs = omega arith
+weigh-append f (p ∷ ps) qs = omega (arith, weigh-append f ps qs)
+
+pub weigh-le : (f g : Pair → ℕ) (ps : List Pair) → ((p : Pair) → In p ps → f p ≤ g p)
+    → weigh f ps ≤ weigh g ps
+weigh-le f g [] h = omega arith
+weigh-le f g (p ∷ ps) h =
+    omega (arith, h p (inl refl), weigh-le f g ps (λ q i. h q (inr i)))
+
+-- so often the stamp is among those of the pairs
+pub weigh-stamps : (t : ℕ) (pairs : List Pair) → count t (stamps pairs) ≡ weigh (hits t) pairs
+weigh-stamps t [] = refl
+weigh-stamps t (pair ∷ pairs) = omega (arith, count-stamps t pair pairs, weigh-stamps t pairs)
+
 pub stamp-In : (t : ℕ) (pair : Pair) (pairs : List Pair) → stamp_of pair.reply ≡ Some t
     → In pair pairs → In t (stamps pairs)
 stamp-In t pair pairs e i = In-filter_map (λ (p : Pair). stamp_of p.reply) pair t pairs e i
@@ -153,27 +173,35 @@ pub record Owns (setting : Setting) (before : ℕ → List Write) (own : ℕ →
   pub above : (w : ℕ) → w < setting.workers
       → AllByRecursion (λ t. (setting.floor < t) × (t < 2 ^ 62)) (stamps (own w))
 
--- a pair is one of a worker's, or a refusal with no stamp
-pub record Fits (setting : Setting) (own : ℕ → List Pair) (ranges : ℕ → List Range)
-    (pairs : List Pair) : Type 0 where
+-- a pair is one of a worker's, or one that its session answered itself, and none is there more
+-- often than the workers have it
+pub record Fits (setting : Setting) (own : ℕ → List Pair) (pairs : List Pair) : Type 0 where
   pub each : (p : Pair) → In p pairs → ((w : ℕ) × (w < setting.workers) × In p (own w))
-      ⊎ IsRefusal setting.told setting.layout p
+      ⊎ IsHere setting.layout p
   pub all : (w : ℕ) (p : Pair) → w < setting.workers → In p (own w) → In p pairs
-  pub counts : (t : ℕ) → count t (stamps pairs) ≤ sum_below setting.workers (λ w. among t (ranges
-      w))
+  pub weighs : (f : Pair → ℕ) → ((p : Pair) → IsHere setting.layout p → f p ≡ 0)
+      → weigh f pairs ≤ sum_below setting.workers (λ w. weigh f (own w))
 
 module _ (setting : Setting) (before : ℕ → List Write) (base : IsBefore setting before)
     (own : ℕ → List Pair) (ranges : ℕ → List Range) (owns : Owns setting before own ranges)
-    (pairs : List Pair) (fits : Fits setting own ranges pairs) where
+    (pairs : List Pair) (fits : Fits setting own pairs) where
   pub one : (t : ℕ) → count t (stamps pairs) ≤ 1
-  one t = let a = fits.counts t in let b = owns.apart t in omega (arith, a, b)
+  one t = omega (
+    arith,
+    weigh-stamps t pairs,
+    fits.weighs (hits t) (λ p here. hits-none t p (stampless setting.layout p here)),
+    sum_below-le setting.workers (λ w. weigh (hits t) (own w)) (λ w. among t (ranges w))
+        (λ w lt. omega (arith, weigh-stamps t (own w), owns.counted w lt t)),
+    owns.apart t,
+  )
 
   -- a pair with a stamp is a worker's
   pub from_worker : (p : Pair) (t : ℕ) → In p pairs → stamp_of p.reply ≡ Some t
       → (w : ℕ) × (w < setting.workers) × In p (own w)
   from_worker p t i e = ⊎_elim (λ a. a)
-      (λ (b : IsRefusal setting.told setting.layout p).
-      let none : None ≡ Some t = sym b.stampless ∙ e in absurd (cc)) (fits.each p i)
+      (λ (b : IsHere setting.layout p).
+      let none : None ≡ Some t = sym (stampless setting.layout p b) ∙ e in absurd (cc))
+      (fits.each p i)
 
   pub stamp_above : (p : Pair) (t : ℕ) → In p pairs → stamp_of p.reply ≡ Some t
       → (setting.floor < t) × (t < 2 ^ 62)
@@ -233,7 +261,7 @@ module _ (setting : Setting) (before : ℕ → List Write) (base : IsBefore sett
       In-filter_map acknowledged p x (own w) e (subst (λ n. In p (own n)) same f.2)
 
   -- a key has at each stamp what its owner's writes alone give it
-  value-same : (w t : ℕ) (key : List ℕ) → w < setting.workers → owner_of key setting.workers ≡ w
+  pub value-same : (w t : ℕ) (key : List ℕ) → w < setting.workers → owner_of key setting.workers ≡ w
       → value_at (before w ++ writes (own w)) t key
       ≡ value_at ((all_before setting before) ++ writes pairs) t key
   value-same w t key lt is =
@@ -285,7 +313,7 @@ module _ (setting : Setting) (before : ℕ → List Write) (base : IsBefore sett
         ((all_before setting before) ++ writes pairs) p.request p.reply
         (λ t key e. value-same a.0 t key a.1 (owner-of setting.workers a.0 p.request key owned e))
         right)
-        (λ (b : IsRefusal setting.told setting.layout p).
-        b.answer ((all_before setting before) ++ writes pairs))
+        (λ (b : IsHere setting.layout p). here_answers setting.told setting.layout
+        ((all_before setting before) ++ writes pairs) p b)
         (fits.each p i));
   }

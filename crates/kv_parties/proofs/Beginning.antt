@@ -10,7 +10,7 @@ use Rattle.kv_model.specs.Recovery.{AreKept}
 use Rattle.kv_model.proofs.ContainsLemmas.{All-members}
 use Rattle.kv_parties.specs.Rows.{row}
 use Rattle.kv_parties.specs.Setting.{Setting}
-use Rattle.kv_parties.specs.Joined.{IsBefore}
+use Rattle.kv_parties.specs.Begun.{IsBefore}
 use Rattle.kv_parties.proofs.Lists.{In, All-In, In-All, In-append, In-row-back}
 
 module _ {X : Type 0} (R : X → X → Type 0) where

@@ -1,16 +1,19 @@
 -- The pairs of the answers that a session heard, of which it knows the replies alone.
 use Rattle.std.proofs.Common.{◌≡◌, ℕ, ◌<◌, List, [], ◌∷◌, ◌++◌, map, refl, sym, ap, ◌∙◌, subst, ◌≤◌}
-use Rattle.std.specs.Prelude.{Bool, false}
+use Rattle.std.proofs.Common.{true, arith}
+use Rattle.std.specs.Prelude.{Bool, false, max}
 use Rattle.std.specs.List.{AllByRecursion}
 use Rattle.kv_base.specs.declared.reply.Reply.{Reply}
+use Rattle.kv_base.specs.declared.request.Request.{Request}
 use Rattle.kv_model.specs.Pairwise.{Pairwise}
 use Rattle.kv_model.specs.Pairs.{Pair, stamps}
 use Rattle.kv_parties.specs.Setting.{Setting}
 use Rattle.kv_parties.specs.Groups.{Asked, Answers, replies_of}
 use Rattle.kv_parties.specs.Sessions.{Exchange, exchange_pairs, part_of, asked_by, replied_by}
 use Rattle.kv_parties.specs.Sessions.{all_asked}
-use Rattle.kv_parties.specs.Sessions.{all_replied, AsksGroups, IsHandled}
-use Rattle.kv_parties.specs.Joined.{Rings, AllKeep}
+use Rattle.kv_parties.specs.Sessions.{all_replied, IsHandled, greatest, seen_behind, HaveSeen}
+use Rattle.kv_parties.specs.Sessions.{IsPending}
+use Rattle.kv_parties.proofs.Rings.{Rings, Course, RingsKeep}
 use Rattle.kv_stamps.specs.declared.view.Range.{Range}
 use Rattle.kv_model.specs.History.{Write}
 use Rattle.kv_parties.proofs.Parts.{answered_by, all_parts}
@@ -93,6 +96,65 @@ Answers-fewer (group ∷ asked) (pairs ∷ answered) more h = (
       h.1,
 )
 
+-- the greatest is at least the number and each of the others
+greatest-from : (number : ℕ) (xs : List ℕ) → number ≤ greatest number xs
+greatest-from number [] = omega arith
+greatest-from number (x ∷ xs) = omega (arith, greatest-from (max number x) xs)
+
+greatest-above : (number : ℕ) (xs : List ℕ) → AllByRecursion (λ x. x ≤ greatest number xs) xs
+greatest-above number [] = tt
+greatest-above number (x ∷ xs) =
+    (omega (arith, greatest-from (max number x) xs), greatest-above (max number x) xs)
+
+All-below : (low high : ℕ) (xs : List ℕ) → low ≤ high → AllByRecursion (λ x. x ≤ low) xs
+    → AllByRecursion (λ x. x ≤ high) xs
+All-below low high [] le all = tt
+All-below low high (x ∷ xs) le all =
+    (omega (arith, all.0, le), All-below low high xs le all.1)
+
+-- each later exchange had seen as much
+seen-later : (seen : ℕ) (exchanges : List Exchange) → HaveSeen seen exchanges
+    → AllByRecursion (λ exchange. seen ≤ exchange.seen) exchanges
+seen-later seen exchanges have = from seen seen exchanges (omega arith) have
+  where
+    from : (low seen : ℕ) (exchanges : List Exchange) → low ≤ seen → HaveSeen seen exchanges
+        → AllByRecursion (λ exchange. low ≤ exchange.seen) exchanges
+    from low seen [] le have = tt
+    from low seen (x ∷ exchanges) le have = (
+      omega (arith, le, have.0),
+      from low (greatest seen (stamps (exchange_pairs x))) exchanges
+          (omega (arith, le, greatest-from seen (stamps (exchange_pairs x)))) have.1,
+    )
+
+seen-pairwise : (seen : ℕ) (exchanges : List Exchange) → HaveSeen seen exchanges
+    → Pairwise (λ exchange next. AllByRecursion (λ stamp. stamp ≤ next.seen)
+    (stamps (exchange_pairs exchange))) exchanges
+seen-pairwise seen [] have = tt
+seen-pairwise seen (x ∷ exchanges) have =
+    let now : ℕ = greatest seen (stamps (exchange_pairs x)) in (
+      each exchanges (seen-later now exchanges have.1),
+      seen-pairwise now exchanges have.1,
+    )
+  where
+    each : (later : List Exchange)
+        → AllByRecursion (λ next. greatest seen (stamps (exchange_pairs x)) ≤ next.seen) later
+        → AllByRecursion (λ next. AllByRecursion (λ stamp. stamp ≤ next.seen)
+        (stamps (exchange_pairs x))) later
+    each [] all = tt
+    each (next ∷ later) all = (
+      All-below (greatest seen (stamps (exchange_pairs x))) next.seen (stamps (exchange_pairs x))
+          all.0 (greatest-above seen (stamps (exchange_pairs x))),
+      each later all.1,
+    )
+
+-- nothing comes where the session doesn't wait
+still : (setting : Setting) (seen : ℕ) (requests : List Request) (asking : ℕ → List Asked)
+    (coming : ℕ → List (List Reply)) (waiting : Bool)
+    → IsPending waiting setting seen requests asking coming → waiting ≡ false
+    → (worker : ℕ) → worker < setting.workers → coming worker ≡ []
+still setting seen requests asking coming true pending e = absurd (cc)
+still setting seen requests asking coming false pending e = pending.hears
+
 -- a session's promise with the pairs of each answer in place of the replies alone
 pub record SessionPairs (setting : Setting) (asked : ℕ → List Asked) (heard : ℕ → List (List Pair))
     (groups : List (List Pair)) (waiting : Bool) : Type 0 where
@@ -107,12 +169,11 @@ pub record SessionPairs (setting : Setting) (asked : ℕ → List Asked) (heard 
       → heard worker ≡ all_parts setting.workers worker exchanges ++ coming worker lt
   pub seen : Pairwise (λ exchange next. AllByRecursion (λ stamp. stamp ≤ next.seen)
       (stamps (exchange_pairs exchange))) exchanges
-  pub handled : AllByRecursion (λ exchange. AllByRecursion (IsHandled setting.told setting.layout)
+  pub handled : AllByRecursion (λ exchange. AllByRecursion (IsHandled setting.layout)
       exchange.handled) exchanges
 
 module _ (setting : Setting) (before : ℕ → List Write) (rings : Rings) (ranges : ℕ → List Range)
-    (groups : ℕ → List (List Pair)) (waiting : ℕ → Bool)
-    (keep : AllKeep setting before rings ranges groups waiting) where
+    (courses : ℕ → Course) (keep : RingsKeep setting before rings ranges courses) where
   -- what a session heard answers what it asked
   pub heard_answers : (s : ℕ) → s < setting.sessions → (w : ℕ) → w < setting.workers
       → Answers (rings.asked s w) (rings.heard s w)
@@ -128,7 +189,8 @@ module _ (setting : Setting) (before : ℕ → List Write) (rings : Rings) (rang
       (subst (Answers (rings.asked s w)) (sym back.1) more)
 
   pub pairs_of_session : (s : ℕ) → s < setting.sessions
-      → SessionPairs setting (rings.asked s) (rings.heard s) (groups s) (waiting s)
+      → SessionPairs setting (rings.asked s) (rings.heard s) (courses s).groups
+      (courses s).waiting
   pairs_of_session s lt =
       let tale = keep.sessions s lt in
       let come : (w : ℕ) (less : w < setting.workers) → (more : List (List Pair))
@@ -142,11 +204,12 @@ module _ (setting : Setting) (before : ℕ → List Write) (rings : Rings) (rang
         exchanges = tale.exchanges;
         asking = tale.asking;
         coming = λ w less. (come w less).0;
-        none = λ quiet w less. no_replies (come w less).0 ((come w less).2 ∙ tale.none quiet w
-            less);
+        none = λ quiet w less. no_replies (come w less).0 ((come w less).2
+            ∙ still setting (seen_behind 0 tale.exchanges) (courses s).requests tale.asking
+            tale.coming (courses s).waiting tale.pending quiet w less);
         same = tale.same;
         asks = tale.asks;
         answers = λ w less. (come w less).1;
-        seen = tale.seen;
+        seen = seen-pairwise 0 tale.exchanges tale.seen;
         handled = tale.handled;
       }

@@ -1,73 +1,93 @@
 -- The promises of all parties together.
-use Rattle.std.proofs.Common.{◌≡◌, ◌⊎◌, inl, inr, ⊎_elim, ℕ, zero, suc, ◌+◌, ◌^◌, ◌<◌, ◌≤◌, List}
-use Rattle.std.proofs.Common.{[], ◌∷◌, ◌++◌, map, Bool, true, false, cond, refl, sym, ap, ◌∙◌}
+use Rattle.std.proofs.Common.{◌≡◌, ◌⊎◌, inl, inr, ℕ, zero, suc, ◌+◌, ◌^◌, ◌<◌, ◌≤◌, List}
+use Rattle.std.proofs.Common.{[], ◌∷◌, ◌++◌, map, true, false, cond, refl, sym, ap, ◌∙◌}
 use Rattle.std.proofs.Common.{subst, arith, append-nil}
 use Rattle.std.specs.Prelude.{nat_eq}
-use Rattle.std.specs.List.{AllByRecursion, filter, flat_map}
+use Rattle.std.specs.List.{AllByRecursion, filter}
 use Rattle.kv_base.specs.Partition.{owner_of}
 use Rattle.kv_stamps.specs.Ranges.{among}
 use Rattle.kv_stamps.specs.declared.view.Range.{Range}
 use Rattle.kv_model.specs.History.{Write}
-use Rattle.kv_model.specs.Pairs.{Pair, writes, stamps, stamp_of, pairs_in}
-use Rattle.kv_model.specs.Agreement.{AgreesWithMap, IsAnswer, IsRefusal}
+use Rattle.kv_model.specs.Pairs.{Pair, writes, stamps, pairs_in}
+use Rattle.kv_model.specs.Agreement.{IsAnswer}
 use Rattle.kv_model.specs.Order.{RespectsOrder}
 use Rattle.kv_parties.specs.Rows.{sum_below, row}
 use Rattle.kv_parties.specs.Setting.{Setting, IsOwned}
 use Rattle.kv_parties.specs.Groups.{Asked, Answers}
 use Rattle.kv_parties.specs.Workers.{Done, done_pairs, done_for}
-use Rattle.kv_parties.specs.Sessions.{Handled, IsHandled, Exchange, exchange_pairs, goes_to}
+use Rattle.kv_parties.specs.Sessions.{Handled, IsHandled, Exchange, exchange_pairs}
 use Rattle.kv_parties.specs.Sessions.{part_of}
 use Rattle.kv_parties.specs.Sessions.{all_asked}
-use Rattle.kv_parties.specs.Joined.{Rings, AllKeep, IsBefore, IsQuiet, Stands, all_before}
-use Rattle.kv_parties.specs.Joined.{all_answered, all_pairs}
-use Rattle.kv_parties.proofs.Lists.{In, count, In-left, In-right, All-In, In-All, In-row}
+use Rattle.kv_parties.specs.Begun.{IsBefore}
+use Rattle.kv_parties.proofs.Rings.{Rings, Course, RingsKeep, IsQuiet, rings_answered}
+use Rattle.kv_parties.proofs.Rings.{courses_pairs}
+use Rattle.kv_parties.proofs.Lists.{In, eq_self, count, In-left, All-In, In-row}
 use Rattle.kv_parties.proofs.Lists.{In-row-back, In-filter, In-filter-back, In-map, In-map-back}
 use Rattle.kv_parties.proofs.Lists.{In-flat_map-back, flat_map-append, count-within, sum_below-le}
 use Rattle.kv_parties.proofs.Lists.{sum_below-same, sum_below-zero, sum_below-add, sum_below-swap}
-use Rattle.kv_parties.proofs.Lists.{sum_below-one}
-use Rattle.kv_parties.proofs.Agreeing.{hits, count-stamps, Owns, Fits, agrees}
-use Rattle.kv_parties.proofs.Parts.{eq_self, tally, tally-append, all_parts, IsOrdered}
-use Rattle.kv_parties.proofs.Parts.{parts_ordered, owner-lt, routed_to_owner, tally-exchanges}
+use Rattle.kv_parties.proofs.Lists.{sum_below-one, at_least}
+use Rattle.kv_parties.proofs.Owned.{IsHere}
+use Rattle.kv_parties.proofs.Agreeing.{weigh, weigh-append, Owns, Fits}
+use Rattle.kv_parties.proofs.Parts.{here, all_parts, IsOrdered}
+use Rattle.kv_parties.proofs.Parts.{parts_ordered, owner-lt, routed_to_owner, weigh-exchanges}
 use Rattle.kv_parties.proofs.Parts.{across_exchanges, within_exchanges, in_answered, out_answered}
 use Rattle.kv_parties.proofs.Coming.{Answers-fewer, SessionPairs, heard_answers, pairs_of_session}
 
-tally-row : (t n : ℕ) (f : ℕ → List Pair) → tally t (row n f) ≡ sum_below n (λ s. tally t (f s))
-tally-row t zero f = refl
-tally-row t (suc n) f = omega (arith, tally-append t (row n f) (f n), tally-row t n f)
+weigh-row : (f : Pair → ℕ) (n : ℕ) (g : ℕ → List Pair)
+    → weigh f (row n g) ≡ sum_below n (λ s. weigh f (g s))
+weigh-row f zero g = refl
+weigh-row f (suc n) g = omega (arith, weigh-append f (row n g) (g n), weigh-row f n g)
 
--- what was done for each session is no more than what was done
-tally-done : (t n : ℕ) (history : List Done)
-    → sum_below n (λ s. tally t (done_for s history)) ≤ tally t (done_pairs history)
-tally-done t n [] = omega (arith, sum_below-zero n)
-tally-done t n (d ∷ history) =
-    let part : (s : ℕ) → tally t (done_for s (d ∷ history))
-    ≡ cond (nat_eq d.session s) (hits t d.pair) 0 + tally t (done_for s history) =
-    λ s. elim (nat_eq d.session s) as (λ b. tally t (done_pairs
+done-step : (f : Pair → ℕ) (d : Done) (history : List Done) (s : ℕ)
+    → weigh f (done_for s (d ∷ history))
+    ≡ cond (nat_eq d.session s) (f d.pair) 0 + weigh f (done_for s history)
+done-step f d history s = elim (nat_eq d.session s) as (λ b. weigh f (done_pairs
     (cond b (d ∷ filter (λ (e : Done). nat_eq e.session s) history)
     (filter (λ (e : Done). nat_eq e.session s) history)))
-    ≡ cond b (hits t d.pair) 0 + tally t (done_for s history)) [
-      | true ↦ count-stamps t d.pair (done_for s history)
+    ≡ cond b (f d.pair) 0 + weigh f (done_for s history)) [
+      | true ↦ refl
       | false ↦ omega arith
-    ] in
+    ]
+
+-- what was done for each session is no more than what was done
+weigh-done : (f : Pair → ℕ) (n : ℕ) (history : List Done)
+    → sum_below n (λ s. weigh f (done_for s history)) ≤ weigh f (done_pairs history)
+weigh-done f n [] = omega (arith, sum_below-zero n)
+weigh-done f n (d ∷ history) =
     omega (
       arith,
-      sum_below-same n (λ s. tally t (done_for s (d ∷ history)))
-          (λ s. cond (nat_eq d.session s) (hits t d.pair) 0 + tally t (done_for s history))
-          (λ s lt. part s),
-      sum_below-add n (λ s. cond (nat_eq d.session s) (hits t d.pair) 0)
-          (λ s. tally t (done_for s history)),
-      sum_below-one n d.session (hits t d.pair),
-      tally-done t n history,
-      count-stamps t d.pair (done_pairs history),
+      sum_below-same n (λ s. weigh f (done_for s (d ∷ history)))
+          (λ s. cond (nat_eq d.session s) (f d.pair) 0 + weigh f (done_for s history))
+          (λ s lt. done-step f d history s),
+      sum_below-add n (λ s. cond (nat_eq d.session s) (f d.pair) 0)
+          (λ s. weigh f (done_for s history)),
+      sum_below-one n d.session (f d.pair),
+      weigh-done f n history,
+    )
+
+-- and what was done is no more, where each session is one of these
+weigh-known : (f : Pair → ℕ) (n : ℕ) (history : List Done)
+    → AllByRecursion (λ done. done.session < n) history
+    → weigh f (done_pairs history) ≤ sum_below n (λ s. weigh f (done_for s history))
+weigh-known f n [] known = omega arith
+weigh-known f n (d ∷ history) known =
+    omega (
+      arith,
+      sum_below-same n (λ s. weigh f (done_for s (d ∷ history)))
+          (λ s. cond (nat_eq d.session s) (f d.pair) 0 + weigh f (done_for s history))
+          (λ s lt. done-step f d history s),
+      sum_below-add n (λ s. cond (nat_eq d.session s) (f d.pair) 0)
+          (λ s. weigh f (done_for s history)),
+      at_least n d.session (f d.pair) known.0,
+      weigh-known f n history known.1,
     )
 
 module _ (setting : Setting) (before : ℕ → List Write) (rings : Rings) (ranges : ℕ → List Range)
-    (groups : ℕ → List (List Pair)) (waiting : ℕ → Bool)
-    (keep : AllKeep setting before rings ranges groups waiting)
+    (courses : ℕ → Course) (keep : RingsKeep setting before rings ranges courses)
     (base : IsBefore setting before) where
   of_session : (s : ℕ) → s < setting.sessions
-      → SessionPairs setting (rings.asked s) (rings.heard s) (groups s) (waiting s)
-  of_session s lt = pairs_of_session setting before rings ranges groups waiting keep s lt
+      → SessionPairs setting (rings.asked s) (rings.heard s) (courses s).groups (courses s).waiting
+  of_session s lt = pairs_of_session setting before rings ranges courses keep s lt
 
   pub decide : (w : ℕ) → (w < setting.workers) ⊎ (setting.workers ≤ w)
   decide w = grind arith
@@ -150,22 +170,50 @@ module _ (setting : Setting) (before : ℕ → List Write) (rings : Rings) (rang
   out_own w p lt = each_own (λ w ps. In p ps → (s : ℕ) × (s < setting.sessions)
       × In p (pairs_in (rings.answered w s))) (λ w lt i. history_sent w lt p i) w lt
 
-  -- all that was answered to sessions is no more than the worker's ranges
-  few : (t w : ℕ) → w < setting.workers
-      → sum_below setting.sessions (λ s. tally t (pairs_in (rings.answered w s))) ≤ among t (ranges
-      w)
-  few t w lt =
-      let tale = keep.workers w lt in
+  -- all that was answered to sessions is no more than the worker's own
+  few : (f : Pair → ℕ) (w : ℕ) → w < setting.workers
+      → sum_below setting.sessions (λ s. weigh f (pairs_in (rings.answered w s))) ≤ weigh f (own w)
+  few f w lt = each_own (λ w ps.
+      sum_below setting.sessions (λ s. weigh f (pairs_in (rings.answered w s))) ≤ weigh f ps)
+      (λ w lt. omega (
+        arith,
+        sum_below-same setting.sessions (λ s. weigh f (pairs_in (rings.answered w s)))
+            (λ s. weigh f (done_for s (keep.workers w lt).history))
+            (λ s low. ap (weigh f) ((keep.workers w lt).parts s low)),
+        weigh-done f setting.sessions (keep.workers w lt).history,
+      )) w lt
+
+  -- and the worker's own are no more
+  pub many : (f : Pair → ℕ) (w : ℕ) → w < setting.workers
+      → weigh f (own w) ≤ sum_below setting.sessions (λ s. weigh f (pairs_in (rings.answered w s)))
+  many f w lt = each_own (λ w ps.
+      weigh f ps ≤ sum_below setting.sessions (λ s. weigh f (pairs_in (rings.answered w s))))
+      (λ w lt. omega (
+        arith,
+        sum_below-same setting.sessions (λ s. weigh f (pairs_in (rings.answered w s)))
+            (λ s. weigh f (done_for s (keep.workers w lt).history))
+            (λ s low. ap (weigh f) ((keep.workers w lt).parts s low)),
+        weigh-known f setting.sessions (keep.workers w lt).history (keep.workers w lt).known,
+      )) w lt
+
+  -- so all of the workers' own are no more than what was answered
+  pub all_many : (f : Pair → ℕ) → sum_below setting.workers (λ w. weigh f (own w))
+      ≤ weigh f (rings_answered setting rings.answered)
+  all_many f =
+      let of_worker : ℕ → List Pair =
+      λ w. row setting.sessions (λ s. pairs_in (rings.answered w s)) in
       omega (
         arith,
-        sum_below-same setting.sessions (λ s. tally t (pairs_in (rings.answered w s)))
-            (λ s. tally t (done_for s tale.history)) (λ s low. ap (tally t) (tale.parts s low)),
-        tally-done t setting.sessions tale.history,
-        count-within (λ t. among t (ranges w)) (stamps (done_pairs tale.history)) tale.rising
-            tale.drawn t,
+        weigh-row f setting.workers of_worker,
+        sum_below-le setting.workers (λ w. weigh f (own w)) (λ w. weigh f (of_worker w))
+            (λ w lt. omega (
+              arith,
+              weigh-row f setting.sessions (λ s. pairs_in (rings.answered w s)),
+              many f w lt,
+            )),
       )
 
-  pub all_fit : Fits setting own ranges (all_answered setting rings.answered)
+  pub all_fit : Fits setting own (rings_answered setting rings.answered)
   all_fit =
       let of_worker : ℕ → List Pair =
       λ w. row setting.sessions (λ s. pairs_in (rings.answered w s)) in
@@ -178,18 +226,16 @@ module _ (setting : Setting) (before : ℕ → List Write) (rings : Rings) (rang
             let o = out_own w p lt i in
             In-row p setting.workers w of_worker lt
             (In-row p setting.sessions o.0 (λ s. pairs_in (rings.answered w s)) o.1 o.2);
-        counts = λ t.
-            omega (
-              arith,
-              tally-row t setting.workers of_worker,
-              sum_below-le setting.workers (λ w. tally t (of_worker w)) (λ w. among t (ranges w))
-                  (λ w lt. omega (
-                    arith,
-                    tally-row t setting.sessions (λ s. pairs_in (rings.answered w
-                        s)),
-                    few t w lt,
-                  )),
-            );
+        weighs = λ f none. omega (
+          arith,
+          weigh-row f setting.workers of_worker,
+          sum_below-le setting.workers (λ w. weigh f (of_worker w)) (λ w. weigh f (own w))
+              (λ w lt. omega (
+                arith,
+                weigh-row f setting.sessions (λ s. pairs_in (rings.answered w s)),
+                few f w lt,
+              )),
+        );
       }
 
   -- each part of each exchange of a session was answered in order
@@ -203,27 +249,19 @@ module _ (setting : Setting) (before : ℕ → List Write) (rings : Rings) (rang
       let whole : Answers there (all_parts setting.workers w tale.exchanges ++ tale.coming w less) =
       subst (Answers there) (tale.answers w less)
       (subst (λ a. Answers a (rings.heard s w)) (tale.asks w less)
-      (heard_answers setting before rings ranges groups waiting keep s lt w less)) in
+      (heard_answers setting before rings ranges courses keep s lt w less)) in
       parts_ordered setting.workers w tale.exchanges (tale.asking w)
       (Answers-fewer there (all_parts setting.workers w tale.exchanges) (tale.coming w less) whole)
 
-  ordered_groups : (s : ℕ) → s < setting.sessions → RespectsOrder (groups s)
+  pub ordered_groups : (s : ℕ) → s < setting.sessions → RespectsOrder (courses s).groups
   ordered_groups s lt =
       let tale = of_session s lt in
       subst RespectsOrder (sym tale.same) (record {
-        across = across_exchanges setting.told setting.layout setting.workers base.some_worker
+        across = across_exchanges setting.layout setting.workers base.some_worker
             tale.exchanges tale.seen tale.handled (ordered_parts s lt);
-        within = within_exchanges setting.told setting.layout setting.workers base.some_worker
+        within = within_exchanges setting.layout setting.workers base.some_worker
             tale.exchanges tale.handled (ordered_parts s lt);
       })
-
-  -- at every moment
-  pub stands : Stands setting before rings groups
-  stands = record {
-    right = agrees setting before base own ranges owns (all_answered setting rings.answered)
-        all_fit;
-    ordered = ordered_groups;
-  }
 
   -- what a session heard is the exchanges' parts, and what comes
   came : (s : ℕ) (lt : s < setting.sessions) (w : ℕ) (less : w < setting.workers)
@@ -235,6 +273,15 @@ module _ (setting : Setting) (before : ℕ → List Write) (rings : Rings) (rang
       ap pairs_in (tale.answers w less) ∙ flat_map-append (λ (pairs : List Pair). pairs)
       (all_parts setting.workers w tale.exchanges) (tale.coming w less)
 
+  came-In : (s : ℕ) (lt : s < setting.sessions) (w : ℕ) (less : w < setting.workers) (p : Pair)
+      → In p (pairs_in (all_parts setting.workers w (of_session s lt).exchanges))
+      → In p (pairs_in (rings.heard s w))
+  came-In s lt w less p i =
+      let parts : List Pair = pairs_in (all_parts setting.workers w (of_session s lt).exchanges) in
+      let more : List Pair = pairs_in ((of_session s lt).coming w less) in
+      let whole : pairs_in (rings.heard s w) ≡ parts ++ more = came s lt w less in
+      subst (In p) (sym {b = parts ++ more} whole) (In-left p parts more i)
+
   -- what a worker answered a session is what this has heard, and more
   answered-heard : (s : ℕ) (lt : s < setting.sessions) (w : ℕ) (less : w < setting.workers) (p :
       Pair)
@@ -245,39 +292,39 @@ module _ (setting : Setting) (before : ℕ → List Write) (rings : Rings) (rang
       ∙ ap pairs_in back.1)
       (In-left p (pairs_in (rings.heard s w)) (pairs_in back.0) i)
 
-  session_fits : (s : ℕ) (lt : s < setting.sessions) (p : Pair) → In p (pairs_in (groups s))
-      → ((w : ℕ) × (w < setting.workers) × In p (own w)) ⊎ IsRefusal setting.told setting.layout p
+  pub session_fits : (s : ℕ) (lt : s < setting.sessions) (p : Pair)
+      → In p (pairs_in (courses s).groups)
+      → ((w : ℕ) × (w < setting.workers) × In p (own w)) ⊎ IsHere setting.layout p
   session_fits s lt p i =
       let tale = of_session s lt in
-      let g = In-flat_map-back (λ (pairs : List Pair). pairs) p (groups s) i in
+      let g = In-flat_map-back (λ (pairs : List Pair). pairs) p (courses s).groups i in
       let there : In g.0 (map exchange_pairs tale.exchanges) = subst (In g.0) tale.same g.2 in
       let r = In-map-back exchange_pairs g.0 tale.exchanges there in
       let h = In-map-back (λ (x : Handled). x.pair) p r.0.handled (subst (In p) (sym r.1) g.1) in
-      let all = All-In (λ (x : Exchange). AllByRecursion (IsHandled setting.told setting.layout)
+      let all = All-In (λ (x : Exchange). AllByRecursion (IsHandled setting.layout)
       x.handled)
       r.0 tale.exchanges tale.handled r.2 in
-      let is = All-In (IsHandled setting.told setting.layout) h.0 r.0.handled all h.2 in
+      let is = All-In (IsHandled setting.layout) h.0 r.0.handled all h.2 in
       (elim h.0.routed as (λ b. h.0.routed ≡ b → ((w : ℕ) × (w < setting.workers) × In p (own w))
-      ⊎ IsRefusal setting.told setting.layout p) [
+      ⊎ IsHere setting.layout p) [
         | true ↦ λ e.
-            let to = routed_to_owner setting.told setting.layout setting.workers base.some_worker
+            let to = routed_to_owner setting.layout setting.workers base.some_worker
             h.0 is e in
             let w : ℕ = owner_of to.0 setting.workers in
             let less : w < setting.workers =
-            owner-lt setting.told setting.layout setting.workers base.some_worker to.0 in
+            owner-lt setting.layout setting.workers base.some_worker to.0 in
             let came_in : In h.0.pair (pairs_in (all_parts setting.workers w tale.exchanges)) =
-            in_answered setting.told setting.layout setting.workers base.some_worker w h.0 r.0
+            in_answered setting.layout setting.workers base.some_worker w h.0 r.0
             tale.exchanges r.2 h.2 to.2 in
-            let heard : In p (pairs_in (rings.heard s w)) = subst (In p) (sym (came s lt w less))
-            (In-left p (pairs_in (all_parts setting.workers w tale.exchanges))
-            (pairs_in (tale.coming w less))
+            let heard : In p (pairs_in (rings.heard s w)) = came-In s lt w less p
             (subst (λ q. In q (pairs_in (all_parts setting.workers w tale.exchanges))) h.1
-            came_in)) in
+            came_in) in
             inl (w, less, in_own w s p less lt (answered-heard s lt w less p heard))
-        | false ↦ λ e. inr (subst (IsRefusal setting.told setting.layout) h.1 (is.own e))
+        | false ↦ λ e. inr (subst (IsHere setting.layout) h.1
+            (here setting.layout setting.workers base.some_worker h.0 is e))
       ]) refl
 
-  module _ (quiet : IsQuiet setting rings waiting) where
+  module _ (quiet : IsQuiet setting rings courses) where
     came_all : (s : ℕ) (lt : s < setting.sessions) (w : ℕ) → w < setting.workers
         → pairs_in (rings.answered w s) ≡ pairs_in (all_parts setting.workers w (of_session s
         lt).exchanges)
@@ -288,48 +335,40 @@ module _ (setting : Setting) (before : ℕ → List Write) (rings : Rings) (rang
         ∙ (ap (λ c. pairs_in (all_parts setting.workers w tale.exchanges) ++ pairs_in c) none
         ∙ append-nil (pairs_in (all_parts setting.workers w tale.exchanges))))
 
-    sessions_fit : Fits setting own ranges (all_pairs setting groups)
+    pub sessions_fit : Fits setting own (courses_pairs setting courses)
     sessions_fit = record {
-      each = λ p i. let r = In-row-back p setting.sessions (λ s. pairs_in (groups s)) i in
+      each = λ p i. let r = In-row-back p setting.sessions (λ s. pairs_in (courses s).groups) i in
           session_fits r.0 r.1 p r.2;
       all = λ w p lt i.
           let o = out_own w p lt i in
           let tale = of_session o.0 o.1 in
           let exchanges_have : In p (pairs_in (all_parts setting.workers w tale.exchanges)) =
           subst (In p) (came_all o.0 o.1 w lt) o.2 in
-          let grouped : In p (pairs_in (groups o.0)) =
+          let grouped : In p (pairs_in (courses o.0).groups) =
           subst (λ g. In p (pairs_in g)) (sym tale.same)
-          (out_answered setting.told setting.layout setting.workers base.some_worker w p
+          (out_answered setting.layout setting.workers base.some_worker w p
           tale.exchanges exchanges_have) in
-          In-row p setting.sessions o.0 (λ s. pairs_in (groups s)) o.1 grouped;
-      counts = λ t.
-          omega (
-            arith,
-            tally-row t setting.sessions (λ s. pairs_in (groups s)),
-            sum_below-le setting.sessions (λ s. tally t (pairs_in (groups s)))
-                (λ s. sum_below setting.workers (λ w. tally t (pairs_in (rings.answered w s)))) (λ s
-                lt.
-                let tale = of_session s lt in
-                omega (
-                  arith,
-                  ap (λ g. tally t (pairs_in g)) tale.same,
-                  tally-exchanges setting.told setting.layout setting.workers base.some_worker t
-                      tale.exchanges
-                      tale.handled,
-                  sum_below-same setting.workers (λ w. tally t (pairs_in (rings.answered w s)))
-                      (λ w. tally t (pairs_in (all_parts setting.workers w tale.exchanges)))
-                      (λ w less. ap (tally t) (came_all s lt w less)),
-                )),
-            sum_below-swap setting.sessions setting.workers
-                (λ s w. tally t (pairs_in (rings.answered w s))),
-            sum_below-le setting.workers
-                (λ w. sum_below setting.sessions (λ s. tally t (pairs_in (rings.answered w s))))
-                (λ w. among t (ranges w)) (few t),
-          );
+          In-row p setting.sessions o.0 (λ s. pairs_in (courses s).groups) o.1 grouped;
+      weighs = λ f none. omega (
+        arith,
+        weigh-row f setting.sessions (λ s. pairs_in (courses s).groups),
+        sum_below-le setting.sessions (λ s. weigh f (pairs_in (courses s).groups))
+            (λ s. sum_below setting.workers (λ w. weigh f (pairs_in (rings.answered w s))))
+            (λ s lt.
+            let tale = of_session s lt in
+            omega (
+              arith,
+              ap (λ g. weigh f (pairs_in g)) tale.same,
+              weigh-exchanges setting.layout setting.workers base.some_worker f none
+                  tale.exchanges tale.handled,
+              sum_below-same setting.workers (λ w. weigh f (pairs_in (rings.answered w s)))
+                  (λ w. weigh f (pairs_in (all_parts setting.workers w tale.exchanges)))
+                  (λ w less. ap (weigh f) (came_all s lt w less)),
+            )),
+        sum_below-swap setting.sessions setting.workers
+            (λ s w. weigh f (pairs_in (rings.answered w s))),
+        sum_below-le setting.workers
+            (λ w. sum_below setting.sessions (λ s. weigh f (pairs_in (rings.answered w s))))
+            (λ w. weigh f (own w)) (few f),
+      );
     }
-
-    -- where all is quiet, the sessions' own pairs agree with one plain map
-    pub sessions_agree : AgreesWithMap setting.told setting.layout (all_before setting before)
-        setting.floor (all_pairs setting groups)
-    sessions_agree = agrees setting before base own ranges owns (all_pairs setting groups)
-        sessions_fit

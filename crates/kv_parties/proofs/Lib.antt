@@ -1,10 +1,16 @@
 mod Lists
 mod Histories
+mod Owned
 mod Agreeing
+mod Rings
 mod Parts
 mod Coming
 mod Joining
-mod Ending
-mod Recovering
-pub mod Propositions
 mod Beginning
+mod Recovering
+mod Meeting
+mod Causing
+mod Standing
+mod Spending
+mod Starting
+mod Propositions

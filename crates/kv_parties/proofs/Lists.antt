@@ -1,11 +1,10 @@
 -- Membership, counts and sums of lists.
 use Rattle.std.proofs.Common.{◌≡◌, ◌≢◌, ◌⊎◌, inl, inr, ⊎_elim, ℕ, zero, suc, ◌+◌, ◌<◌, ◌≤◌, List}
-use Rattle.std.proofs.Common.{[], ◌∷◌, ◌++◌, length, map, Option, None, Some, Bool, true, false}
+use Rattle.std.proofs.Common.{[], ◌∷◌, ◌++◌, map, Option, None, Some, Bool, true, false}
 use Rattle.std.proofs.Common.{cond, refl, sym, ap, ◌∙◌, subst, arith, append_assoc}
-use Rattle.std.specs.Prelude.{nat_eq, ⊤, ◌&&◌}
+use Rattle.std.specs.Prelude.{nat_eq}
 use Rattle.std.specs.List.{AllByRecursion, filter, filter_map, flat_map, cons_option}
 use Rattle.std.proofs.lemmas.Bool.Decides.{nat_tests}
-use Rattle.std.proofs.lemmas.List.Elements.{filter_map-append}
 use Rattle.kv_model.specs.Pairwise.{Pairwise}
 use Rattle.kv_parties.specs.Rows.{sum_below, row}
 
@@ -242,3 +241,19 @@ count-within ranges (y ∷ xs) rises all x =
     (λ (ne : y ≢ x). let rest : count x xs ≤ ranges x = count-within ranges xs rises.1 all.1 x in
     grind (arith, nat_tests))
     (let e : (y ≡ x) ⊎ (y ≢ x) = grind arith in e)
+
+pub eq_self : (n : ℕ) → nat_eq n n ≡ true
+eq_self n = grind (arith, nat_tests)
+
+pub sum_below-at : (n s : ℕ) (f : ℕ → ℕ) → s < n → f s ≤ sum_below n f
+sum_below-at zero s f lt = absurd (omega arith)
+sum_below-at (suc n) s f lt =
+    ⊎_elim (λ (less : s < n). omega (arith, sum_below-at n s f less))
+    (λ (e : s ≡ n). omega (arith, ap f e))
+    (let e : (s < n) ⊎ (s ≡ n) = grind arith in e)
+
+-- one of the numbers below n counts
+pub at_least : (m s k : ℕ) → s < m → k ≤ sum_below m (λ w. cond (nat_eq s w) k 0)
+at_least m s k lt =
+    let one : cond (nat_eq s s) k 0 ≡ k = ap (λ b. cond b k 0) (eq_self s) in
+    omega (arith, sum_below-at m s (λ w. cond (nat_eq s w) k 0) lt, one)

@@ -1,30 +1,26 @@
 -- The workers' parts of a session's groups.
-use Rattle.std.proofs.Common.{◌≡◌, ◌≢◌, ◌⊎◌, inl, inr, ⊎_elim, ℕ, zero, suc, ◌+◌, ◌<◌, ◌≤◌, List}
-use Rattle.std.proofs.Common.{[], ◌∷◌, ◌++◌, map, Option, None, Some, Bool, true, false, cond, refl}
+use Rattle.std.proofs.Common.{◌≡◌, ◌⊎◌, inl, inr, ⊎_elim, ℕ, ◌+◌, ◌<◌, ◌≤◌, List}
+use Rattle.std.proofs.Common.{[], ◌∷◌, ◌++◌, map, Option, None, Some, true, false, cond, refl}
 use Rattle.std.proofs.Common.{sym, ap, ◌∙◌, subst, arith}
 use Rattle.std.specs.Prelude.{nat_eq, MatchOption, ⊤, ◌&&◌, IsSome}
-use Rattle.std.specs.List.{AllByRecursion, filter, filter_map, flat_map, cons_option}
-use Rattle.std.proofs.lemmas.Bool.Decides.{nat_tests}
-use Rattle.std.proofs.lemmas.List.Elements.{filter_map-append}
+use Rattle.std.specs.List.{AllByRecursion, filter, flat_map, cons_option}
 use Rattle.std.proofs.Math.Nat.{mod-lt}
 use Rattle.kv_base.specs.Partition.{owner_of, hash_of}
 use Rattle.kv_model.specs.Pairwise.{Pairwise}
 use Rattle.kv_model.specs.Layout.{Layout}
 use Rattle.kv_model.specs.Pairs.{Pair, stamps, key_of, stamp_of, pairs_in}
 use Rattle.kv_model.specs.Order.{IsAfter, Rises, RisesForKey}
-use Rattle.kv_parties.specs.Rows.{sum_below, row}
+use Rattle.kv_parties.specs.Rows.{sum_below}
 use Rattle.kv_parties.specs.Setting.{owns}
 use Rattle.kv_parties.specs.Groups.{Asked, Answers}
 use Rattle.kv_parties.specs.Sessions.{Handled, IsHandled, Exchange, exchange_pairs, goes_to}
 use Rattle.kv_parties.specs.Sessions.{part_of}
 use Rattle.kv_parties.specs.Sessions.{asked_by, all_asked}
-use Rattle.kv_parties.proofs.Lists.{In, count, In-left, In-right, In-append, All-In, In-All}
+use Rattle.kv_parties.proofs.Lists.{In, eq_self, In-left, In-right, In-append, All-In, In-All}
 use Rattle.kv_parties.proofs.Lists.{In-filter, In-filter-back, In-map, In-map-back}
-use Rattle.kv_parties.proofs.Lists.{In-filter_map-back, count-append, sum_below-same, sum_below-add}
-use Rattle.kv_parties.proofs.Agreeing.{hits, count-stamps, hits-none, stamp-In}
-
-pub eq_self : (n : ℕ) → nat_eq n n ≡ true
-eq_self n = grind (arith, nat_tests)
+use Rattle.kv_parties.proofs.Lists.{In-filter_map-back, sum_below-same, sum_below-add, at_least}
+use Rattle.kv_parties.proofs.Owned.{IsHere, stampless}
+use Rattle.kv_parties.proofs.Agreeing.{weigh, weigh-append, stamp-In}
 
 some-of : {X : Type 0} (o : Option X) → IsSome o → (x : X) × (o ≡ Some x)
 some-of None s = absurd (cc)
@@ -39,14 +35,6 @@ answered_by (pair ∷ pairs) = (pair ∷ pairs) ∷ []
 abbrev pub all_parts : ℕ → ℕ → List Exchange → List (List Pair)
 all_parts n w exchanges = flat_map (λ exchange. answered_by (part_of n w exchange.handled))
     exchanges
-
--- how often the pairs have the stamp
-abbrev pub tally : ℕ → List Pair → ℕ
-tally t pairs = count t (stamps pairs)
-
-pub tally-append : (t : ℕ) (ps qs : List Pair) → tally t (ps ++ qs) ≡ tally t ps + tally t qs
-tally-append t ps qs = ap (count t) (filter_map-append (λ (p : Pair). stamp_of p.reply) ps qs)
-    ∙ count-append t (stamps ps) (stamps qs)
 
 -- what the worker's part of a exchange keeps
 abbrev pub IsOrdered : ℕ → List Pair → Type 0
@@ -87,7 +75,7 @@ rises p q h =
           ]) refl
     ]) refl
 
-module _ (told : Bool) (layout : Layout) (n : ℕ) (some : 1 ≤ n) where
+module _ (layout : Layout) (n : ℕ) (some : 1 ≤ n) where
   pub owner-lt : (key : List ℕ) → owner_of key n < n
   owner-lt key = mod-lt (hash_of key) some
 
@@ -96,19 +84,25 @@ module _ (told : Bool) (layout : Layout) (n : ℕ) (some : 1 ≤ n) where
   goes-by h key r e w = ap (λ b. b && owns n w (key_of h.pair.request)) r ∙ ap (owns n w) e
 
   -- a pair that was routed went to the owner of its key
-  pub routed_to_owner : (h : Handled) → IsHandled told layout h → h.routed ≡ true
+  pub routed_to_owner : (h : Handled) → IsHandled layout h → h.routed ≡ true
       → (key : List ℕ) × (key_of h.pair.request ≡ Some key) × (goes_to n (owner_of key n) h ≡ true)
   routed_to_owner h is r =
-      let k = some-of (key_of h.pair.request) (is.keyed r) in
+      let k = some-of (key_of h.pair.request) is.keyed in
       (k.0, k.1, goes-by h k.0 r k.1 (owner_of k.0 n) ∙ eq_self (owner_of k.0 n))
 
+  -- a pair that wasn't routed is the session's own
+  pub here : (h : Handled) → IsHandled layout h → h.routed ≡ false → IsHere layout h.pair
+  here h is r = record { keyed = is.keyed; own = is.own r }
+
   -- a pair with a stamp was routed
-  stamped_routed : (h : Handled) (t : ℕ) → IsHandled told layout h → stamp_of h.pair.reply ≡ Some t
+  stamped_routed : (h : Handled) (t : ℕ) → IsHandled layout h → stamp_of h.pair.reply ≡ Some t
       → h.routed ≡ true
   stamped_routed h t is e =
       (elim h.routed as (λ b. h.routed ≡ b → b ≡ true) [
         | true ↦ λ r. refl
-        | false ↦ λ r. let none : None ≡ Some t = sym (is.own r).stampless ∙ e in absurd (cc)
+        | false ↦ λ r.
+            let none : None ≡ Some t = sym (stampless layout h.pair (here h is r)) ∙ e in
+            absurd (cc)
       ]) refl
 
   in_part : (h : Handled) (w : ℕ) (handled : List Handled) → goes_to n w h ≡ true → In h handled
@@ -117,7 +111,7 @@ module _ (told : Bool) (layout : Layout) (n : ℕ) (some : 1 ≤ n) where
       (In-filter (goes_to n w) h handled e i)
 
   -- within a group stamps rise for each key
-  within_group : (handled : List Handled) → AllByRecursion (IsHandled told layout) handled
+  within_group : (handled : List Handled) → AllByRecursion (IsHandled layout) handled
       → ((w : ℕ) → w < n → Pairwise ◌<◌ (stamps (part_of n w handled)))
       → Pairwise RisesForKey (map (λ (h : Handled). h.pair) handled)
   within_group [] is parts = tt
@@ -130,7 +124,7 @@ module _ (told : Bool) (layout : Layout) (n : ℕ) (some : 1 ≤ n) where
         let w : ℕ = owner_of of_h.0 n in
         let f_g : stamp_of g.pair.reply ≡ Some o = ap (λ (x : Pair). stamp_of x.reply) back.1 ∙ f
         in
-        let is_g : IsHandled told layout g = All-In (IsHandled told layout) g handled is.1 back.2
+        let is_g : IsHandled layout g = All-In (IsHandled layout) g handled is.1 back.2
         in
         let key_g : key_of g.pair.request ≡ Some of_h.0 =
         ap (λ (x : Pair). key_of x.request) back.1 ∙ (sym same ∙ of_h.1) in
@@ -161,92 +155,82 @@ module _ (told : Bool) (layout : Layout) (n : ℕ) (some : 1 ≤ n) where
             | false ↦ λ q. q
           ]) p
 
-  at_least : (m s k : ℕ) → s < m → k ≤ sum_below m (λ w. cond (nat_eq s w) k 0)
-  at_least zero s k lt = absurd (omega arith)
-  at_least (suc m) s k lt =
-      ⊎_elim (λ (less : s < m). let rest : k ≤ sum_below m (λ w. cond (nat_eq s w) k 0) =
-      at_least m s k less in omega arith)
-      (λ (e : s ≡ m). let yes_eq : nat_eq s m ≡ true = (ap (nat_eq s) (sym e) ∙ eq_self s) in
-      let last : cond (nat_eq s m) k 0 ≡ k = ap (λ b. cond b k 0) yes_eq in omega arith)
-      (let e : (s < m) ⊎ (s ≡ m) = grind arith in e)
+  module _ (f : Pair → ℕ) (none : (p : Pair) → IsHere layout p → f p ≡ 0) where
+    -- a pair of a group counts in a worker's part, or not at all
+    counts-once : (h : Handled) → IsHandled layout h
+        → f h.pair ≤ sum_below n (λ w. cond (goes_to n w h) (f h.pair) 0)
+    counts-once h is =
+        (elim h.routed as (λ b. h.routed ≡ b
+        → f h.pair ≤ sum_below n (λ w. cond (goes_to n w h) (f h.pair) 0)) [
+          | true ↦ λ r.
+              let k = routed_to_owner h is r in
+              let some_part : f h.pair
+              ≤ sum_below n (λ w. cond (nat_eq (owner_of k.0 n) w) (f h.pair) 0) =
+              at_least n (owner_of k.0 n) (f h.pair) (owner-lt k.0) in
+              omega (
+                arith,
+                some_part,
+                sum_below-same n (λ w. cond (goes_to n w h) (f h.pair) 0)
+                    (λ w. cond (nat_eq (owner_of k.0 n) w) (f h.pair) 0)
+                    (λ w lt. ap (λ b. cond b (f h.pair) 0) (goes-by h k.0 r k.1 w)),
+              )
+          | false ↦ λ r. omega (arith, none h.pair (here h is r))
+        ]) refl
 
-  -- a pair of a group counts in a worker's part, or has no stamp
-  counts-once : (t : ℕ) (h : Handled) → IsHandled told layout h
-      → hits t h.pair ≤ sum_below n (λ w. cond (goes_to n w h) (hits t h.pair) 0)
-  counts-once t h is =
-      (elim h.routed as (λ b. h.routed ≡ b
-      → hits t h.pair ≤ sum_below n (λ w. cond (goes_to n w h) (hits t h.pair) 0)) [
-        | true ↦ λ r.
-            let k = routed_to_owner h is r in
-            let some_part : hits t h.pair
-            ≤ sum_below n (λ w. cond (nat_eq (owner_of k.0 n) w) (hits t h.pair) 0) =
-            at_least n (owner_of k.0 n) (hits t h.pair) (owner-lt k.0) in
-            omega (
-              arith,
-              some_part,
-              sum_below-same n (λ w. cond (goes_to n w h) (hits t h.pair) 0)
-                  (λ w. cond (nat_eq (owner_of k.0 n) w) (hits t h.pair) 0)
-                  (λ w lt. ap (λ b. cond b (hits t h.pair) 0) (goes-by h k.0 r k.1 w)),
-            )
-        | false ↦ λ r. let none : hits t h.pair ≡ 0 = hits-none t h.pair (is.own r).stampless in
-            omega arith
-      ]) refl
+    -- the pairs of a group are those of the workers' parts, and the session's own
+    weigh-parts : (handled : List Handled) → AllByRecursion (IsHandled layout) handled
+        → weigh f (map (λ (x : Handled). x.pair) handled)
+        ≤ sum_below n (λ w. weigh f (part_of n w handled))
+    weigh-parts [] is = omega arith
+    weigh-parts (h ∷ handled) is =
+        let part : (w : ℕ) → weigh f (part_of n w (h ∷ handled))
+        ≡ cond (goes_to n w h) (f h.pair) 0 + weigh f (part_of n w handled) =
+        λ w. elim (goes_to n w h) as (λ b. weigh f (map (λ (x : Handled). x.pair)
+        (cond b (h ∷ filter (goes_to n w) handled) (filter (goes_to n w) handled)))
+        ≡ cond b (f h.pair) 0 + weigh f (part_of n w handled)) [
+          | true ↦ refl
+          | false ↦ omega arith
+        ] in
+        omega (
+          arith,
+          sum_below-same n (λ w. weigh f (part_of n w (h ∷ handled)))
+              (λ w. cond (goes_to n w h) (f h.pair) 0 + weigh f (part_of n w handled))
+              (λ w lt. part w),
+          sum_below-add n (λ w. cond (goes_to n w h) (f h.pair) 0)
+              (λ w. weigh f (part_of n w handled)),
+          counts-once h is.0,
+          weigh-parts handled is.1,
+        )
 
-  -- the pairs of a group are those of the workers' parts, and refusals with no stamp
-  tally-parts : (t : ℕ) (handled : List Handled) → AllByRecursion (IsHandled told layout) handled
-      → tally t (map (λ (x : Handled). x.pair) handled) ≤ sum_below n (λ w. tally t (part_of n w
-      handled))
-  tally-parts t [] is = omega arith
-  tally-parts t (h ∷ handled) is =
-      let part : (w : ℕ) → tally t (part_of n w (h ∷ handled))
-      ≡ cond (goes_to n w h) (hits t h.pair) 0 + tally t (part_of n w handled) =
-      λ w. elim (goes_to n w h) as (λ b. tally t (map (λ (x : Handled). x.pair)
-      (cond b (h ∷ filter (goes_to n w) handled) (filter (goes_to n w) handled)))
-      ≡ cond b (hits t h.pair) 0 + tally t (part_of n w handled)) [
-        | true ↦ count-stamps t h.pair (part_of n w handled)
-        | false ↦ omega arith
-      ] in
-      omega (
-        arith,
-        sum_below-same n (λ w. tally t (part_of n w (h ∷ handled)))
-            (λ w. cond (goes_to n w h) (hits t h.pair) 0 + tally t (part_of n w handled)) (λ w lt.
-            part
-            w),
-        sum_below-add n (λ w. cond (goes_to n w h) (hits t h.pair) 0) (λ w. tally t (part_of n w
-            handled)),
-        counts-once t h is.0,
-        tally-parts t handled is.1,
-        count-stamps t h.pair (map (λ (x : Handled). x.pair) handled),
-      )
-
-  pub tally-exchanges : (t : ℕ) (exchanges : List Exchange)
-      → AllByRecursion (λ exchange. AllByRecursion (IsHandled told layout) exchange.handled)
-      exchanges
-      → tally t (pairs_in (map exchange_pairs exchanges)) ≤ sum_below n (λ w. tally t (pairs_in
-      (all_parts
-      n w exchanges)))
-  tally-exchanges t [] is = omega arith
-  tally-exchanges t (r ∷ exchanges) is =
-      let later : ℕ → List (List Pair) = λ w. all_parts n w exchanges in
-      let part : (w : ℕ) → tally t (pairs_in (answered_by (part_of n w r.handled) ++ later w))
-      ≡ tally t (part_of n w r.handled) + tally t (pairs_in (later w)) =
-      λ w. elim (part_of n w r.handled) as (λ ps. tally t (pairs_in (answered_by ps ++ later w))
-      ≡ tally t ps + tally t (pairs_in (later w))) [
-        | [] ↦ omega arith
-        | p ∷ ps ↦ tally-append t (p ∷ ps) (pairs_in (later w))
-      ] in
-      omega (
-        arith,
-        tally-append t (exchange_pairs r) (pairs_in (map exchange_pairs exchanges)),
-        tally-parts t r.handled is.0,
-        tally-exchanges t exchanges is.1,
-        sum_below-same n (λ w. tally t (pairs_in (answered_by (part_of n w r.handled) ++ later w)))
-            (λ w. tally t (part_of n w r.handled) + tally t (pairs_in (later w))) (λ w lt. part w),
-        sum_below-add n (λ w. tally t (part_of n w r.handled)) (λ w. tally t (pairs_in (later w))),
-      )
+    pub weigh-exchanges : (exchanges : List Exchange)
+        → AllByRecursion (λ exchange. AllByRecursion (IsHandled layout) exchange.handled) exchanges
+        → weigh f (pairs_in (map exchange_pairs exchanges))
+        ≤ sum_below n (λ w. weigh f (pairs_in (all_parts n w exchanges)))
+    weigh-exchanges [] is = omega arith
+    weigh-exchanges (r ∷ exchanges) is =
+        let later : ℕ → List (List Pair) = λ w. all_parts n w exchanges in
+        let part : (w : ℕ) → weigh f (pairs_in (answered_by (part_of n w r.handled) ++ later w))
+        ≡ weigh f (part_of n w r.handled) + weigh f (pairs_in (later w)) =
+        λ w. elim (part_of n w r.handled) as (λ ps. weigh f (pairs_in (answered_by ps ++ later w))
+        ≡ weigh f ps + weigh f (pairs_in (later w))) [
+          | [] ↦ omega arith
+          | p ∷ ps ↦ weigh-append f (p ∷ ps) (pairs_in (later w))
+        ] in
+        omega (
+          arith,
+          weigh-append f (exchange_pairs r) (pairs_in (map exchange_pairs exchanges)),
+          weigh-parts r.handled is.0,
+          weigh-exchanges exchanges is.1,
+          sum_below-same n
+              (λ w. weigh f (pairs_in (answered_by (part_of n w r.handled) ++ later w)))
+              (λ w. weigh f (part_of n w r.handled) + weigh f (pairs_in (later w)))
+              (λ w lt. part w),
+          sum_below-add n (λ w. weigh f (part_of n w r.handled))
+              (λ w. weigh f (pairs_in (later w))),
+        )
 
   -- a stamp of a exchange is above what its session had seen
-  stamp_after : (r : Exchange) (o : ℕ) → AllByRecursion (IsHandled told layout) r.handled
+  stamp_after : (r : Exchange) (o : ℕ) → AllByRecursion (IsHandled layout) r.handled
       → ((w : ℕ) → w < n → IsOrdered r.seen (part_of n w r.handled)) → In o (stamps (exchange_pairs
       r))
       → r.seen < o
@@ -256,7 +240,7 @@ module _ (told : Bool) (layout : Layout) (n : ℕ) (some : 1 ≤ n) where
       let h : Handled = back.0 in
       let e : stamp_of h.pair.reply ≡ Some o = ap (λ (x : Pair). stamp_of x.reply) back.1 ∙ made.1
       in
-      let is_h : IsHandled told layout h = All-In (IsHandled told layout) h r.handled is back.2 in
+      let is_h : IsHandled layout h = All-In (IsHandled layout) h r.handled is back.2 in
       let to = routed_to_owner h is_h (stamped_routed h o is_h e) in
       let w : ℕ = owner_of to.0 n in
       All-In (λ z. r.seen < z) o (stamps (part_of n w r.handled)) (parts w (owner-lt to.0)).0
@@ -266,7 +250,7 @@ module _ (told : Bool) (layout : Layout) (n : ℕ) (some : 1 ≤ n) where
       → Pairwise (λ exchange next. AllByRecursion (λ stamp. stamp ≤ next.seen) (stamps
       (exchange_pairs
       exchange))) exchanges
-      → AllByRecursion (λ exchange. AllByRecursion (IsHandled told layout) exchange.handled)
+      → AllByRecursion (λ exchange. AllByRecursion (IsHandled layout) exchange.handled)
       exchanges
       → ((w : ℕ) → w < n
       → AllByRecursion (λ exchange. IsOrdered exchange.seen (part_of n w exchange.handled))
@@ -285,7 +269,7 @@ module _ (told : Bool) (layout : Layout) (n : ℕ) (some : 1 ≤ n) where
         k
         in
         let high : g.seen < o = stamp_after g o (All-In (λ (x : Exchange).
-        AllByRecursion (IsHandled told layout) x.handled) g exchanges is.1 back.2)
+        AllByRecursion (IsHandled layout) x.handled) g exchanges is.1 back.2)
         (λ w lt. All-In (λ (x : Exchange). IsOrdered x.seen (part_of n w x.handled)) g
         exchanges
         (parts w lt).1 back.2) in_g in
@@ -294,7 +278,7 @@ module _ (told : Bool) (layout : Layout) (n : ℕ) (some : 1 ≤ n) where
   )
 
   pub within_exchanges : (exchanges : List Exchange)
-      → AllByRecursion (λ exchange. AllByRecursion (IsHandled told layout) exchange.handled)
+      → AllByRecursion (λ exchange. AllByRecursion (IsHandled layout) exchange.handled)
       exchanges
       → ((w : ℕ) → w < n
       → AllByRecursion (λ exchange. IsOrdered exchange.seen (part_of n w exchange.handled))

@@ -1,25 +1,30 @@
 -- What stands is a proposition.
 use Rattle.std.proofs.Common.{◌≡◌, ◌≢◌, ℕ, ◌<◌, ◌^◌, List, [], ◌∷◌, ◌++◌, Option, None, Some, Bool}
 use Rattle.std.proofs.Common.{cond, refl, sym, ap, ◌∙◌}
-use Rattle.std.specs.Prelude.{MatchOption, ⊤, nat_eq}
+use Rattle.std.specs.Prelude.{MatchOption, ⊤, nat_eq, true}
 use mathlib.Core.HLevel.{collapsible→set}
 use Rattle.std.specs.List.{AllByRecursion, AllByRecursion-prop}
 use Rattle.std.proofs.Props.{props}
 use Rattle.kv_base.specs.declared.request.Request.{Request}
-use Rattle.kv_base.specs.declared.request.Request.TheVariants.{Put, Get, Delete, Flush}
+use Rattle.kv_base.specs.declared.request.Request.TheVariants.{Put, Get, Delete}
 use Rattle.kv_base.specs.declared.reply.Reply.{Reply}
 use Rattle.kv_base.specs.declared.reply.Reply.TheVariants.{Stored, Found, Missing, Removed, Absent}
 use Rattle.kv_base.specs.declared.reply.Reply.TheVariants.{BadKey, TooLarge, Full, NoMemory}
 use Rattle.kv_base.specs.declared.reply.Reply.TheVariants.{DiskFault, Unsure, Closed, StampsSpent}
 use Rattle.kv_base.specs.declared.reply.Reply.TheVariants.{Malformed}
 use Rattle.kv_model.specs.History.{Write, value_at}
+use Rattle.kv_model.specs.Items.{SameValue}
 use Rattle.kv_model.specs.Pairwise.{Pairwise}
 use Rattle.kv_model.specs.Layout.{Layout}
-use Rattle.kv_model.specs.Pairs.{Pair, writes, stamps, stamp_of, key_of}
+use Rattle.kv_model.specs.Pairs.{Pair, writes, stamps, stamp_of}
 use Rattle.kv_model.specs.Agreement.{AgreesWithMap, IsAnswer, IsMapAnswer, IsRead, refusal_of}
 use Rattle.kv_model.specs.Order.{RespectsOrder, IsAfter, Rises, RisesForKey}
-use Rattle.kv_parties.specs.Setting.{Setting}
-use Rattle.kv_parties.specs.Joined.{Rings, Stands}
+use Rattle.kv_stamps.specs.declared.view.Range.{Range}
+use Rattle.kv_disk.specs.declared.disk.Disk as disks
+use Rattle.kv_parties.specs.Setting.{Setting, owned_pairs, owned_writes}
+use Rattle.kv_parties.specs.Causes.{HasCauses, IsSpentAt, IsFullAt, any_unsure, all_writes}
+use Rattle.kv_parties.specs.Recovered.{LeavesPrefixes}
+use Rattle.kv_parties.specs.Joined.{Parties, Stands, IsAccounted}
 
 -- a reply as its kind, a number and a value
 abbrev code : Reply → ℕ × (ℕ × List ℕ)
@@ -143,6 +148,45 @@ order-prop groups =
     hlevel (props, r)) g) groups in
     hlevel (props, a, b)
 
-pub stands-prop : (setting : Setting) (before : ℕ → List Write) (rings : Rings)
-    (groups : ℕ → List (List Pair)) → IsProp (Stands setting before rings groups)
-stands-prop setting before rings groups = hlevel (props, agrees-prop, order-prop)
+causes-prop : (setting : Setting) (worker : ℕ) (before : List Write) (runs : List Range)
+    (faults faults' : ℕ) (closed : Bool) (pairs : List Pair)
+    → IsProp (HasCauses setting worker before runs faults faults' closed pairs)
+causes-prop setting worker before runs faults faults' closed pairs =
+    let owned : List Pair = owned_pairs setting.workers worker pairs in
+    let history : List Write = owned_writes setting.workers worker (all_writes before pairs) in
+    let a : IsProp (AllByRecursion (λ pair. pair.reply ≡ Closed → any_unsure owned ≡ true) owned) =
+    AllByRecursion-prop (λ (pair : Pair). pair.reply ≡ Closed → any_unsure owned ≡ true)
+    (λ p. hlevel props) owned in
+    let b : IsProp (AllByRecursion (IsSpentAt runs) owned) =
+    AllByRecursion-prop (IsSpentAt runs) (λ p. hlevel props) owned in
+    let c : IsProp (AllByRecursion (IsFullAt setting.layout setting.slots history) owned) =
+    AllByRecursion-prop (IsFullAt setting.layout setting.slots history) (λ p. hlevel props) owned in
+    hlevel (props, a, b, c)
+
+leaves-prop : {D : Type 0} (d : disks.Ghosts D) (setting : Setting) (worker : ℕ) (first now : D)
+    (before : List Write) (pairs : List Pair)
+    → IsProp (LeavesPrefixes d setting worker first now before pairs)
+leaves-prop d setting worker first now before pairs = hlevel props
+
+same_value-prop : (told : Bool) (a b : Option (List ℕ)) → IsProp (SameValue told a b)
+same_value-prop told None None = hlevel props
+same_value-prop told None (Some b) = hlevel props
+same_value-prop told (Some a) None = hlevel props
+same_value-prop told (Some a) (Some b) = hlevel props
+
+accounted-prop : (setting : Setting) (pairs told : List Pair)
+    → IsProp (AllByRecursion (IsAccounted setting pairs) told)
+accounted-prop setting pairs told =
+    AllByRecursion-prop (IsAccounted setting pairs) (λ p. hlevel props) told
+
+pub stands-prop : {F D : Type 0} (d : disks.Ghosts D) (setting : Setting) (parties : Parties F D)
+    (pairs : List Pair) → IsProp (Stands d setting parties pairs)
+stands-prop d setting parties pairs = hlevel (
+  props,
+  agrees-prop,
+  order-prop,
+  accounted-prop,
+  causes-prop,
+  same_value-prop,
+  leaves-prop,
+)

@@ -1,9 +1,9 @@
 -- Recovery of a worker's disk, by the writes of all parties.
-use Rattle.std.proofs.Common.{◌≡◌, ◌⊎◌, inl, inr, ⊎_elim, ℕ, ◌<◌, ◌≤◌, List, [], ◌∷◌, ◌++◌, Option}
-use Rattle.std.proofs.Common.{None, Some, Bool, true, false, refl, sym, ap, ◌∙◌, subst, arith}
+use Rattle.std.proofs.Common.{◌≡◌, ◌⊎◌, inl, inr, ⊎_elim, ℕ, ◌<◌, ◌≤◌, List, ◌++◌}
+use Rattle.std.proofs.Common.{Some, refl, sym, ap, ◌∙◌, subst, arith}
 use Rattle.std.proofs.Common.{append_assoc}
-use Rattle.std.specs.Prelude.{if◌then◌else◌, option_and_then}
-use Rattle.std.specs.List.{AllByRecursion}
+use Rattle.std.proofs.Math.Logic.{∥∥₁_map}
+use Rattle.std.specs.Prelude.{option_and_then}
 use Rattle.kv_base.specs.Image.{Image}
 use Rattle.kv_base.specs.Partition.{owner_of}
 use Rattle.kv_base.specs.declared.request.Request.{Request}
@@ -15,10 +15,10 @@ use Rattle.kv_model.specs.Pairs.{Pair, writes, unsure_writes, key_of, stamp_of, 
 use Rattle.kv_model.specs.Pairs.{acknowledged_by, unsure_by}
 use Rattle.kv_model.specs.Reading.{slot_at}
 use Rattle.kv_model.specs.Recovery.{RecoversPrefix, HoldsAll, GivesValue}
-use Rattle.kv_parties.specs.Rows.{row}
 use Rattle.kv_parties.specs.Setting.{Setting, IsOwned}
-use Rattle.kv_parties.specs.Joined.{IsBefore, all_before}
-use Rattle.kv_parties.specs.Recovered.{all_writes, Recovers}
+use Rattle.kv_parties.specs.Begun.{IsBefore, all_before}
+use Rattle.kv_parties.specs.Causes.{all_writes}
+use Rattle.kv_parties.specs.Recovered.{Recovers}
 use Rattle.kv_parties.proofs.Lists.{In, In-left, In-right, In-append, All-In, In-All, In-filter_map}
 use Rattle.kv_parties.proofs.Lists.{In-filter_map-back, In-row, In-row-back}
 use Rattle.kv_parties.proofs.Histories.{from_some, latest-same}
@@ -26,7 +26,7 @@ use Rattle.kv_parties.proofs.Agreeing.{written-is, acknowledged-is, stamp-tells,
 use Rattle.kv_parties.proofs.Agreeing.{owner-of, Owns, Fits, one, from_worker, stamp_above}
 
 -- the write is one of the pair's
-abbrev IsOf : Pair → Write → Type 0
+abbrev pub IsOf : Pair → Write → Type 0
 IsOf pair x = (acknowledged pair ≡ Some x) ⊎ (unsure_by pair.request pair.reply ≡ Some x)
 
 unsure_by-is : (request : Request) (reply : Reply) (w : Write) → unsure_by request reply ≡ Some w
@@ -35,7 +35,7 @@ unsure_by-is request (Unsure t) w e =
     let is = written-is request t w e in (ap Some (sym is.0), is.1)
 unsure_by-is request reply w e = absurd (cc)
 
-of-is : (pair : Pair) (w : Write) → IsOf pair w
+pub of-is : (pair : Pair) (w : Write) → IsOf pair w
     → (stamp_of pair.reply ≡ Some w.stamp) × (key_of pair.request ≡ Some w.key)
 of-is pair w (inl e) = acknowledged-is pair w e
 of-is pair w (inr e) = unsure_by-is pair.request pair.reply w e
@@ -53,18 +53,19 @@ of-one pair v u (inr e) (inl f) = sym (never-both pair.request pair.reply u v f 
 of-one pair v u (inr e) (inr f) = from_some v u (sym e ∙ f)
 
 -- the writes of the pairs, acknowledged and unsure
-abbrev left_by : List Pair → List Write
+abbrev pub left_by : List Pair → List Write
 left_by pairs = writes pairs ++ unsure_writes pairs
 
-left-In : (x : Write) (p : Pair) (pairs : List Pair) → IsOf p x → In p pairs → In x (left_by pairs)
+pub left-In : (x : Write) (p : Pair) (pairs : List Pair) → IsOf p x → In p pairs
+    → In x (left_by pairs)
 left-In x p pairs (inl e) i =
     In-left x (writes pairs) (unsure_writes pairs) (In-filter_map acknowledged p x pairs e i)
 left-In x p pairs (inr e) i =
     In-right x (writes pairs) (unsure_writes pairs)
     (In-filter_map (λ (q : Pair). unsure_by q.request q.reply) p x pairs e i)
 
-In-left_by : (x : Write) (pairs : List Pair) → In x (left_by pairs) → (p : Pair) × IsOf p x × In p
-    pairs
+pub In-left_by : (x : Write) (pairs : List Pair) → In x (left_by pairs)
+    → (p : Pair) × IsOf p x × In p pairs
 In-left_by x pairs i = ⊎_elim
     (λ (a : In x (writes pairs)).
     let m = In-filter_map-back acknowledged x pairs a in (m.0, inl m.1, m.2))
@@ -75,7 +76,7 @@ In-left_by x pairs i = ⊎_elim
 
 module _ (setting : Setting) (before : ℕ → List Write) (base : IsBefore setting before)
     (own : ℕ → List Pair) (ranges : ℕ → List Range) (owns : Owns setting before own ranges)
-    (pairs : List Pair) (fits : Fits setting own ranges pairs) where
+    (pairs : List Pair) (fits : Fits setting own pairs) where
   -- key and stamp tell the write among all
   tells : (v u : Write) → In v (all_before setting before ++ left_by pairs)
       → In u (all_before setting before ++ left_by pairs) → v.key ≡ u.key → v.stamp ≡ u.stamp → v ≡
@@ -159,38 +160,45 @@ module _ (setting : Setting) (before : ℕ → List Write) (base : IsBefore sett
       ∙ ap (λ ws. value_at ws t key)
       (sym (append_assoc (all_before setting before) (writes pairs) (unsure_writes pairs))))
 
-  -- what holds all of the owner's acknowledged writes of the key holds all
-  holds-left : (w s : ℕ) (key : List ℕ) (acknowledging : Bool) → owner_of key setting.workers ≡ w
-      → HoldsAll (before w ++ (if acknowledging then writes (own w) else [])) key s
-      → HoldsAll (all_before setting before ++ (if acknowledging then writes pairs else [])) key s
-  holds-left w s key acknowledging is holds = In-All _ _ (λ x i k.
-      All-In (λ (y : Write). y.key ≡ key → y.stamp ≤ s) x _ holds (mine acknowledging x k i) k)
-    where
-      mine : (acknowledging : Bool) (x : Write) → x.key ≡ key
-          → In x (all_before setting before ++ (if acknowledging then writes pairs else []))
-          → In x (before w ++ (if acknowledging then writes (own w) else []))
-      mine true x k i = ⊎_elim
-          (λ a. In-left x (before w) (writes (own w)) (own-before w key x is k a))
-          (λ b. let m = In-filter_map-back acknowledged x pairs b in
-          In-right x (before w) (writes (own w))
-          (In-filter_map acknowledged m.0 x (own w) m.1 (own-pair w key x m.0 is k (inl m.1)
-          m.2)))
-          (In-append x (all_before setting before) (writes pairs) i)
-      mine false x k i = ⊎_elim
-          (λ a. In-left x (before w) [] (own-before w key x is k a))
-          (λ b. absurd b)
-          (In-append x (all_before setting before) [] i)
+  -- each acknowledged write of a key of the worker's is one that its own pairs acknowledge
+  abbrev pub AreOwnAlso : ℕ → List Pair → List Pair → Type 0
+  AreOwnAlso w mine all = (x : Write) → owner_of x.key setting.workers ≡ w → In x (writes all)
+      → In x (writes mine)
 
-  pub recovers : (w : ℕ) (image : Image) (acknowledging : Bool) → w < setting.workers
-      → Recovers setting w image acknowledging (before w) (own w)
-      → Recovers setting w image acknowledging (all_before setting before) pairs
-  recovers w image acknowledging lt of_own = record {
+  pub all_own_also : (w : ℕ) → AreOwnAlso w (own w) pairs
+  all_own_also w x is i =
+      let m = In-filter_map-back acknowledged x pairs i in
+      In-filter_map acknowledged m.0 x (own w) m.1 (own-pair w x.key x m.0 is refl (inl m.1) m.2)
+
+  -- what holds all of the owner's acknowledged writes of the key holds all
+  holds-left : (w s : ℕ) (key : List ℕ) (mine all : List Pair) → owner_of key setting.workers ≡ w
+      → AreOwnAlso w mine all → HoldsAll (before w ++ writes mine) key s
+      → HoldsAll (all_before setting before ++ writes all) key s
+  holds-left w s key mine all is also holds = In-All _ _ (λ x i k.
+      All-In (λ (y : Write). y.key ≡ key → y.stamp ≤ s) x _ holds (⊎_elim
+      (λ a. In-left x (before w) (writes mine) (own-before w key x is k a))
+      (λ b. In-right x (before w) (writes mine)
+      (also x (ap (λ k. owner_of k setting.workers) k ∙ is) b))
+      (In-append x (all_before setting before) (writes all) i)) k)
+
+  recovers-so : (w : ℕ) (image : Image) (mine all : List Pair) → w < setting.workers
+      → AreOwnAlso w mine all
+      → RecoversPrefix setting.layout (all_writes (before w) (own w))
+      (before w ++ writes mine) image w setting.workers
+      → RecoversPrefix setting.layout (all_writes (all_before setting before) pairs)
+      (all_before setting before ++ writes all) image w setting.workers
+  recovers-so w image mine all lt also of_own = record {
     opens = of_own.opens;
     prefix = λ key is.
         let p = of_own.prefix key is in (
           p.0,
-          holds-left w p.0 key acknowledging is p.1,
+          holds-left w p.0 key mine all is also p.1,
           subst (GivesValue (slot_at setting.layout image) w setting.workers key)
               (value-left w p.0 key lt is) p.2,
         );
   }
+
+  pub recovers : (w : ℕ) (image : Image) (mine all : List Pair) → w < setting.workers
+      → AreOwnAlso w mine all → Recovers setting w image (before w) mine (own w)
+      → Recovers setting w image (all_before setting before) all pairs
+  recovers w image mine all lt also of_own = ∥∥₁_map of_own (recovers-so w image mine all lt also)

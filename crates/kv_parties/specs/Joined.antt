@@ -1,97 +1,106 @@
 -- What the promises of all parties say together.
-use Rattle.std.specs.Prelude.{◌≡◌, ◌≤◌, ◌<◌, ℕ, List, Bool, false}
+use Rattle.std.specs.Prelude.{◌≡◌, ◌≤◌, ◌<◌, ◌+◌, ℕ, List, ◌++◌, length, ◌⊎◌}
+use Rattle.std.specs.Prelude.{Contains}
+use Rattle.std.specs.Prelude.{Bool, false}
 use Rattle.std.specs.List.{AllByRecursion}
 use mathlib.Core.List.{IsPrefix}
-use Rattle.kv_base.specs.Image.{Image}
 use Rattle.kv_base.specs.Partition.{owner_of}
-use Rattle.kv_stamps.specs.Ranges.{among}
-use Rattle.kv_stamps.specs.declared.view.Range.{Range}
-use Rattle.kv_model.specs.History.{Write, IsHistory}
-use Rattle.kv_model.specs.Pairs.{Pair, pairs_in}
+use Rattle.kv_base.specs.declared.request.Request.{Request}
+use Rattle.kv_disk.specs.declared.disk.Disk as disks
 use Rattle.kv_model.specs.Agreement.{AgreesWithMap}
+use Rattle.kv_model.specs.History.{Write, value_at}
+use Rattle.kv_model.specs.Items.{SameValue}
 use Rattle.kv_model.specs.Order.{RespectsOrder}
-use Rattle.kv_model.specs.Recovery.{AreKept}
+use Rattle.kv_model.specs.Pairs.{Pair, pairs_in, writes}
+use Rattle.kv_ring.specs.declared.message.Ask.{Ask}
+use Rattle.kv_ring.specs.declared.message.Answer.{Answer}
+use Rattle.kv_stamps.specs.Ranges.{among}
+use Rattle.kv_parties.specs.Begun.{all_before}
+use Rattle.kv_parties.specs.Causes.{HasCauses, IsOwn}
+use Rattle.kv_parties.specs.Messages.{all_asking, answered_in}
+use Rattle.kv_parties.specs.Promises.{WorkerData, WorkerPromise, SessionPromise}
+use Rattle.kv_parties.specs.Recovered.{LeavesPrefixes}
 use Rattle.kv_parties.specs.Rows.{sum_below, row}
 use Rattle.kv_parties.specs.Setting.{Setting}
-use Rattle.kv_parties.specs.Groups.{Asked, replies_of}
-use Rattle.kv_parties.specs.Workers.{AnswersGroups}
-use Rattle.kv_parties.specs.Sessions.{AsksGroups}
 
--- the groups and answers on all rings: what each session asked of each worker, what that worker
--- took
--- of it and answered, and what of this the session heard
-pub record Rings : Type 0 where
-  pub asked : ℕ → ℕ → List Asked
-  pub taken : ℕ → ℕ → List Asked
-  pub answered : ℕ → ℕ → List (List Pair)
-  pub heard : ℕ → ℕ → List (List Pair)
+-- what all parties have: the messages and answers that each sent to each and received, by session
+-- and worker or by worker and session; each worker's earlier writes, and what it has beside its
+-- ring ends; each session's answered groups, the requests of the one under way, and whether it
+-- waits
+pub record Parties (F D : Type 0) : Type 0 where
+  pub asks_sent : ℕ → ℕ → List (Ask F)
+  pub asks_received : ℕ → ℕ → List (Ask F)
+  pub answers_sent : ℕ → ℕ → List (Answer F)
+  pub answers_received : ℕ → ℕ → List (Answer F)
+  pub before : ℕ → List Write
+  pub workers : ℕ → WorkerData D
+  pub groups : ℕ → List (List Pair)
+  pub requests : ℕ → List Request
+  pub waiting : ℕ → Bool
 
--- all parties keep their promises, what was taken and heard begins what was asked and answered, and
--- no number is in two ranges
-pub record AllKeep (setting : Setting) (before : ℕ → List Write) (rings : Rings)
-    (ranges : ℕ → List Range) (groups : ℕ → List (List Pair)) (waiting : ℕ → Bool) :
-    Type 0 where
-  pub workers : (worker : ℕ) → worker < setting.workers → AnswersGroups setting worker
-      (before worker) (rings.taken worker) (rings.answered worker) (ranges worker)
-  pub sessions : (session : ℕ) → session < setting.sessions → AsksGroups setting
-      (rings.asked session) (λ worker. replies_of (rings.heard session worker)) (groups session)
-      (waiting session)
-  pub asks : (session worker : ℕ) → session < setting.sessions → worker < setting.workers
-      → IsPrefix (rings.taken worker session) (rings.asked session worker)
-  pub answers : (session worker : ℕ) → session < setting.sessions → worker < setting.workers
-      → IsPrefix (rings.heard session worker) (rings.answered worker session)
-  pub apart : (number : ℕ)
-      → sum_below setting.workers (λ worker. among number (ranges worker)) ≤ 1
+-- the pair is one of these, or one that its session answered itself
+abbrev pub IsAccounted : Setting → List Pair → Pair → Type 0
+IsAccounted setting pairs pair = ∥ Contains pairs pair ⊎ IsOwn setting.layout pair ∥₁
 
--- the writes that all workers begin with
-abbrev pub all_before : Setting → (ℕ → List Write) → List Write
-all_before setting before = row setting.workers before
+module _ {F D : Type 0} where
+  -- all pairs that workers answered: by worker, then by session
+  abbrev pub all_answered : Setting → Parties F D → List Pair
+  all_answered setting parties = row setting.workers (λ worker. row setting.sessions (λ session.
+      pairs_in (answered_in (parties.answers_sent worker session))))
 
--- these are a history that ends at the floor, each write of a key that its worker owns
-pub record IsBefore (setting : Setting) (before : ℕ → List Write) : Type 0 where
-  pub history : IsHistory (all_before setting before)
-  pub low : AllByRecursion (λ write. write.stamp ≤ setting.floor) (all_before setting before)
-  pub owned : (worker : ℕ) → worker < setting.workers
-      → AllByRecursion (λ write. owner_of write.key setting.workers ≡ worker) (before worker)
-  pub some_worker : 1 ≤ setting.workers
+  -- all pairs that sessions answered
+  abbrev pub all_pairs : Setting → Parties F D → List Pair
+  all_pairs setting parties =
+      row setting.sessions (λ session. pairs_in (parties.groups session))
 
--- the items that the disks of all workers keep, none above the floor, are such writes
-abbrev pub KeptItemsBegin : Type 0
-KeptItemsBegin = (setting : Setting) (before : ℕ → List Write) (images : ℕ → Image)
-    → 1 ≤ setting.workers
-    → ((worker : ℕ) → worker < setting.workers
-    → AreKept setting.layout (images worker) worker setting.workers (before worker)
-    × AllByRecursion (λ write. write.stamp ≤ setting.floor) (before worker))
-    → IsBefore setting before
+  -- all parties keep their promises, what was received begins what was sent, and no number is in
+  -- two ranges
+  pub record AllKeep (d : disks.Ghosts D) (setting : Setting) (parties : Parties F D) : Type 0 where
+    pub workers : (worker : ℕ) → worker < setting.workers → WorkerPromise d setting worker
+        (parties.before worker) (parties.asks_received worker) (parties.answers_sent worker)
+        (parties.workers worker)
+    pub sessions : (session : ℕ) → session < setting.sessions → SessionPromise setting
+        (parties.asks_sent session) (parties.answers_received session) (parties.groups session)
+        (parties.requests session) (parties.waiting session)
+    pub asks : (session worker : ℕ) → session < setting.sessions → worker < setting.workers
+        → IsPrefix (parties.asks_received worker session) (parties.asks_sent session worker)
+    pub answers : (session worker : ℕ) → session < setting.sessions → worker < setting.workers
+        → IsPrefix (parties.answers_received session worker) (parties.answers_sent worker session)
+    pub apart : (number : ℕ)
+        → sum_below setting.workers (λ worker. among number (parties.workers worker).view.drawn) ≤ 1
 
--- all pairs that workers answered: by worker, then by session
-abbrev pub all_answered : Setting → (ℕ → ℕ → List (List Pair)) → List Pair
-all_answered setting answered = row setting.workers (λ worker.
-    row setting.sessions (λ session. pairs_in (answered worker session)))
+  -- each message that a worker received and that has an answer is answered
+  abbrev pub NonePassed : Setting → Parties F D → Type 0
+  NonePassed setting parties = (session worker : ℕ) → session < setting.sessions
+      → worker < setting.workers → length (parties.answers_sent worker session)
+      ≡ length (all_asking (parties.asks_received worker session))
 
--- all pairs that sessions answered
-abbrev pub all_pairs : Setting → (ℕ → List (List Pair)) → List Pair
-all_pairs setting groups = row setting.sessions (λ session. pairs_in (groups session))
+  -- no session waits
+  abbrev pub NoneWaits : Setting → Parties F D → Type 0
+  NoneWaits setting parties = (session : ℕ) → session < setting.sessions
+      → parties.waiting session ≡ false
 
--- no session waits, and all that was answered was heard
-pub record IsQuiet (setting : Setting) (rings : Rings) (waiting : ℕ → Bool) : Type 0 where
-  pub waits : (session : ℕ) → session < setting.sessions → waiting session ≡ false
-  pub heard : (session worker : ℕ) → session < setting.sessions → worker < setting.workers
-      → rings.heard session worker ≡ rings.answered worker session
-
--- all answered pairs are those of one plain map, and each session's stamps are in its order
-pub record Stands (setting : Setting) (before : ℕ → List Write) (rings : Rings)
-    (groups : ℕ → List (List Pair)) : Type 0 where
-  pub right : AgreesWithMap setting.told setting.layout (all_before setting before) setting.floor
-      (all_answered setting rings.answered)
-  pub ordered : (session : ℕ) → session < setting.sessions → RespectsOrder (groups session)
-
--- where all parties keep their promises, this stands, and where all is quiet, what the sessions
--- answered is that of the same map
-abbrev pub PromisesJoin : Type 0
-PromisesJoin = (setting : Setting) (before : ℕ → List Write) (rings : Rings)
-    (ranges : ℕ → List Range) (groups : ℕ → List (List Pair)) (waiting : ℕ → Bool)
-    → IsBefore setting before → AllKeep setting before rings ranges groups waiting
-    → Stands setting before rings groups
-    × (IsQuiet setting rings waiting → AgreesWithMap setting.told setting.layout
-    (all_before setting before) setting.floor (all_pairs setting groups))
+  -- the pairs are those of one plain map that began with what all disks kept; each session's stamps
+  -- are in its order, and what it answered is one of the pairs or its own refusal; each refusal has
+  -- its cause, each open worker's store has its part of the map, and each disk recovers a prefix of
+  -- the writes
+  pub record Stands (d : disks.Ghosts D) (setting : Setting) (parties : Parties F D)
+      (pairs : List Pair) : Type 0 where
+    pub right : AgreesWithMap setting.told setting.layout (all_before setting parties.before)
+        setting.floor pairs
+    pub ordered : (session : ℕ) → session < setting.sessions
+        → RespectsOrder (parties.groups session)
+    pub accounted : (session : ℕ) → session < setting.sessions
+        → AllByRecursion (IsAccounted setting pairs) (pairs_in (parties.groups session))
+    pub causes : (worker : ℕ) → worker < setting.workers → HasCauses setting worker
+        (all_before setting parties.before) (parties.workers worker).view.spent
+        (d.faults (parties.workers worker).first) (d.faults (parties.workers worker).now)
+        (parties.workers worker).closed pairs
+    pub map : (worker : ℕ) → worker < setting.workers → (parties.workers worker).closed ≡ false
+        → (stamp : ℕ) → (parties.workers worker).view.seen ≤ stamp + 1 → (key : List ℕ)
+        → owner_of key setting.workers ≡ worker
+        → SameValue setting.told ((parties.workers worker).store.value key)
+        (value_at (all_before setting parties.before ++ writes pairs) stamp key)
+    pub leaves : (worker : ℕ) → worker < setting.workers → LeavesPrefixes d setting worker
+        (parties.workers worker).first (parties.workers worker).now
+        (all_before setting parties.before) pairs

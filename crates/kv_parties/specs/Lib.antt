@@ -1,9 +1,13 @@
 pub mod Rows
 pub mod Setting
+pub mod Begun
+pub mod Causes
 pub mod Groups
+pub mod Stamps
 pub mod Workers
 pub mod Sessions
-pub mod Joined
 pub mod Messages
-pub mod Promises
 pub mod Recovered
+pub mod Promises
+pub mod Joined
+pub mod Laws

@@ -1,98 +1,80 @@
--- What each party promises of its ring ends and its ranges of stamps.
-use Rattle.std.specs.Prelude.{◌≡◌, ◌≤◌, ◌<◌, ◌+◌, ℕ, List, [], ◌∷◌, ◌++◌, length, Bool, false}
-use mathlib.Core.List.{IsPrefix}
-use Rattle.kv_stamps.specs.Ranges.{among}
-use Rattle.kv_stamps.specs.declared.view.Range.{Range}
+-- What each party promises of its own data alone: a worker of its ring ends, its seat of the
+-- counter, its store and its disk, a session of its ring ends and the groups that it answered.
+use Rattle.std.specs.Prelude.{◌≡◌, ◌≤◌, ◌<◌, ◌+◌, ℕ, List, ◌++◌, length, Bool, false, true}
+use Rattle.std.specs.List.{AllByRecursion}
+use Rattle.kv_base.specs.declared.request.Request.{Request}
+use Rattle.kv_disk.specs.declared.disk.Disk as disks
+use Rattle.kv_model.specs.Batch.{Start}
 use Rattle.kv_model.specs.History.{Write}
-use Rattle.kv_model.specs.Pairs.{Pair}
-use Rattle.kv_model.specs.Agreement.{AgreesWithMap}
+use Rattle.kv_model.specs.Items.{FollowsHistory}
+use Rattle.kv_model.specs.Pairs.{Pair, pairs_in, writes}
 use Rattle.kv_ring.specs.declared.message.Ask.{Ask}
 use Rattle.kv_ring.specs.declared.message.Answer.{Answer}
-use Rattle.kv_parties.specs.Rows.{sum_below}
-use Rattle.kv_parties.specs.Setting.{Setting}
+use Rattle.kv_stamps.specs.declared.view.View.{View}
+use Rattle.kv_parties.specs.Causes.{KeepsCauses}
 use Rattle.kv_parties.specs.Groups.{replies_of}
-use Rattle.kv_parties.specs.Workers.{AnswersGroups}
+use Rattle.kv_parties.specs.Messages.{groups_in, all_asking, answered_in, IsPartOf, IsWhole, Hears}
+use Rattle.kv_parties.specs.Messages.{takes_message}
+use Rattle.kv_parties.specs.Recovered.{LeavesPrefixes}
 use Rattle.kv_parties.specs.Sessions.{AsksGroups}
-use Rattle.kv_parties.specs.Joined.{Rings, IsBefore, Stands, all_before, all_pairs}
-use Rattle.kv_parties.specs.Messages.{groups_in, all_asking, answered_in, IsPartOf}
+use Rattle.kv_parties.specs.Setting.{Setting}
+use Rattle.kv_parties.specs.Stamps.{KeepsStamps}
+use Rattle.kv_parties.specs.Workers.{AnswersGroups, done_pairs}
 
--- all that was sent and received: by session and worker, and by worker and session
-pub record Messages (F : Type 0) : Type 0 where
-  pub asks_sent : ℕ → ℕ → List (Ask F)
-  pub asks_received : ℕ → ℕ → List (Ask F)
-  pub answers_sent : ℕ → ℕ → List (Answer F)
-  pub answers_received : ℕ → ℕ → List (Answer F)
+-- what a worker has beside its ring ends: what its seat knows of the counter, its disk as it was
+-- and as it is, whether it is closed, and what a batch would find at its store
+pub record WorkerData (D : Type 0) : Type 0 where
+  pub view : View
+  pub first : D
+  pub now : D
+  pub closed : Bool
+  pub store : Start
 
-module _ {F : Type 0} where
-  -- a worker's promise, by what it received from each session and sent to it: it took all messages
-  -- but those that it passed over, answered no more than it took, and answered the groups
-  pub record WorkerPromise (setting : Setting) (worker : ℕ) (before : List Write)
-      (received : ℕ → List (Ask F)) (sent : ℕ → List (Answer F)) (ranges : List Range) :
-      Type 0 where
-    pub taken : ℕ → List (Ask F)
-    pub part : (session : ℕ) → session < setting.sessions
-        → IsPartOf (taken session) (all_asking (received session))
-    pub few : (session : ℕ) → session < setting.sessions
-        → length (sent session) ≤ length (taken session)
-    pub groups : AnswersGroups setting worker before (λ session. groups_in (taken session))
-        (λ session. answered_in (sent session)) ranges
+-- an open store has of each key what the writes leave of it behind all stamps so far
+abbrev pub KeepsMap : Setting → List Write → View → Bool → Start → Type 0
+KeepsMap setting history view closed store = closed ≡ false → (stamp : ℕ) → view.seen ≤ stamp + 1
+    → FollowsHistory setting.told history stamp store
 
-  -- a session's promise, by what it sent to each worker and received from it: it heard all answers
-  -- but those that it passed over, is owed one at most, and none unless it waits, and asked the
-  -- groups
-  pub record SessionPromise (setting : Setting) (sent : ℕ → List (Ask F))
-      (received : ℕ → List (Answer F)) (groups : List (List Pair)) (waiting : Bool) :
-      Type 0 where
-    pub heard : ℕ → List (Answer F)
-    pub part : (worker : ℕ) → worker < setting.workers → IsPartOf (heard worker) (received worker)
-    pub owed : (worker : ℕ) → worker < setting.workers
-        → length (all_asking (sent worker)) ≤ length (heard worker) + 1
-    pub quiet : waiting ≡ false → (worker : ℕ) → worker < setting.workers
-        → length (all_asking (sent worker)) ≤ length (heard worker)
-    pub asks : AsksGroups setting (λ worker. groups_in (sent worker))
-        (λ worker. replies_of (answered_in (heard worker))) groups waiting
+-- a worker's promise, by what it received from each session and sent to it, where an answer that
+-- waits to be sent counts as sent: it took all messages but those that it passed over, and answered
+-- each that it took; the answers are those of one plain map that began with its earlier writes, and
+-- have their causes; the store has that map; and a crash leaves a prefix of its writes
+pub record WorkerPromise {D F : Type 0} (d : disks.Ghosts D) (setting : Setting) (worker : ℕ)
+    (before : List Write) (received : ℕ → List (Ask F)) (sent : ℕ → List (Answer F))
+    (own : WorkerData D) : Type 0 where
+  pub taken : ℕ → List (Ask F)
+  pub part : (session : ℕ) → session < setting.sessions
+      → IsPartOf (taken session) (all_asking (received session))
+  pub each : (session : ℕ) → session < setting.sessions
+      → length (sent session) ≡ length (taken session)
+  pub whole : (session : ℕ) → session < setting.sessions → AllByRecursion IsWhole (sent session)
+  pub groups : AnswersGroups setting worker before (λ session. groups_in (taken session))
+      (λ session. answered_in (sent session)) own.view.drawn
+  pub batches : List (List Pair)
+  pub same : pairs_in batches ≡ done_pairs groups.history
+  pub stamps : KeepsStamps setting (λ session. groups_in (taken session)) own.view
+      (pairs_in batches)
+  pub causes : KeepsCauses setting before own.view.spent (d.faults own.first) (d.faults own.now)
+      own.closed batches
+  pub map : KeepsMap setting (before ++ writes (pairs_in batches)) own.view own.closed own.store
+  pub leaves : LeavesPrefixes d setting worker own.first own.now before (pairs_in batches)
 
-  -- the groups and answers that were sent
-  abbrev pub rings_of : Messages F → Rings
-  rings_of messages = record {
-    asked = λ session worker. groups_in (messages.asks_sent session worker);
-    taken = λ worker session. groups_in (messages.asks_sent session worker);
-    answered = λ worker session. answered_in (messages.answers_sent worker session);
-    heard = λ session worker. answered_in (messages.answers_sent worker session);
-  }
-
-  -- all parties keep their promises and no session waits, what was received begins what was sent,
-  -- and
-  -- no number is in two ranges
-  pub record AllEnd (setting : Setting) (before : ℕ → List Write) (messages : Messages F)
-      (ranges : ℕ → List Range) (groups : ℕ → List (List Pair)) : Type 0 where
-    pub workers : (worker : ℕ) → worker < setting.workers → WorkerPromise setting worker
-        (before worker) (messages.asks_received worker) (messages.answers_sent worker)
-        (ranges worker)
-    pub sessions : (session : ℕ) → session < setting.sessions → SessionPromise setting
-        (messages.asks_sent session) (messages.answers_received session) (groups session) false
-    pub asks : (session worker : ℕ) → session < setting.sessions → worker < setting.workers
-        → IsPrefix (messages.asks_received worker session) (messages.asks_sent session worker)
-    pub answers : (session worker : ℕ) → session < setting.sessions → worker < setting.workers
-        → IsPrefix (messages.answers_received session worker)
-        (messages.answers_sent worker session)
-    pub apart : (number : ℕ)
-        → sum_below setting.workers (λ worker. among number (ranges worker)) ≤ 1
-
--- where all parties keep their promises and no session waits any more, this stands, and what the
--- sessions answered is that of the same map
-abbrev pub PromisesEnd : Type 0 → Type 0
-PromisesEnd F = (setting : Setting) (before : ℕ → List Write) (messages : Messages F)
-    (ranges : ℕ → List Range) (groups : ℕ → List (List Pair)) → IsBefore setting before
-    → AllEnd setting before messages ranges groups
-    → Stands setting before (rings_of messages) groups
-    × AgreesWithMap setting.told setting.layout (all_before setting before) setting.floor
-    (all_pairs setting groups)
-
--- a worker that has answered no more than it took, of a session that is owed one answer at most and
--- passes over none, has answered all that it took when there is a message more
-abbrev pub OwesNone : Type 0 → Type 0
-OwesNone F = (taken sent : List (Ask F)) (message : Ask F) (heard answered : List (Answer F))
-    → IsPrefix (taken ++ message ∷ []) sent → IsPrefix heard answered
-    → length answered ≤ length taken → length sent ≤ length heard + 1
-    → length answered ≡ length taken
+-- a session's promise, by what it sent to each worker, where a message that waits to be sent counts
+-- as sent, and received from it: each message is one that the worker takes; it heard each answer to
+-- a message, is owed one at most, and none unless it waits; and it asked and answered these groups,
+-- but not yet the one of these requests
+pub record SessionPromise {F : Type 0} (setting : Setting) (sent : ℕ → List (Ask F))
+    (received : ℕ → List (Answer F)) (groups : List (List Pair)) (requests : List Request)
+    (waiting : Bool) : Type 0 where
+  pub taken : (worker : ℕ) → worker < setting.workers → AllByRecursion (λ message.
+      takes_message setting.layout worker setting.workers message ≡ true)
+      (all_asking (sent worker))
+  pub heard : ℕ → List (Answer F)
+  pub hears : (worker : ℕ) → worker < setting.workers
+      → Hears (all_asking (sent worker)) (received worker) (heard worker)
+  pub owed : (worker : ℕ) → worker < setting.workers
+      → length (all_asking (sent worker)) ≤ length (heard worker) + 1
+  pub quiet : waiting ≡ false → (worker : ℕ) → worker < setting.workers
+      → length (all_asking (sent worker)) ≤ length (heard worker)
+  pub asks : AsksGroups setting (λ worker. groups_in (sent worker))
+      (λ worker. replies_of (answered_in (heard worker))) groups requests waiting

@@ -1,13 +1,13 @@
 -- What a session promises of the groups that it asked and answered; it speaks of its own data
 -- alone.
-use Rattle.std.specs.Prelude.{◌≡◌, ◌≤◌, ◌<◌, ℕ, List, [], ◌∷◌, ◌++◌, map, filter, IsSome}
-use Rattle.std.specs.Prelude.{Bool, true, false, ◌&&◌}
+use Rattle.std.specs.Prelude.{◌≡◌, ◌⊎◌, ◌<◌, ℕ, max, ⊤, List, [], ◌∷◌, ◌++◌, length, map, filter}
+use Rattle.std.specs.Prelude.{Bool, true, false, ◌&&◌, IsSome}
 use Rattle.std.specs.List.{AllByRecursion, flat_map}
 use Rattle.kv_base.specs.declared.reply.Reply.{Reply}
+use Rattle.kv_base.specs.declared.request.Request.{Request}
 use Rattle.kv_model.specs.Layout.{Layout}
-use Rattle.kv_model.specs.Pairwise.{Pairwise}
 use Rattle.kv_model.specs.Pairs.{Pair, stamps, key_of, requests_of}
-use Rattle.kv_model.specs.Agreement.{IsRefusal}
+use Rattle.kv_parties.specs.Causes.{IsOwn}
 use Rattle.kv_parties.specs.Setting.{Setting, owns}
 use Rattle.kv_parties.specs.Groups.{Asked}
 
@@ -16,10 +16,11 @@ pub record Handled : Type 0 where
   pub pair : Pair
   pub routed : Bool
 
--- what a session answers itself is a refusal, and what is routed is about a key
-pub record IsHandled (told : Bool) (layout : Layout) (handled : Handled) : Type 0 where
-  pub own : handled.routed ≡ false → IsRefusal told layout handled.pair
-  pub keyed : handled.routed ≡ true → IsSome (key_of handled.pair.request)
+-- each pair is about a key, and what a session answers itself is a refusal by size or for want of
+-- memory
+pub record IsHandled (layout : Layout) (handled : Handled) : Type 0 where
+  pub keyed : IsSome (key_of handled.pair.request)
+  pub own : handled.routed ≡ false → IsOwn layout handled.pair
 
 -- a group that a session has answered, and the greatest stamp that it had seen before
 pub record Exchange : Type 0 where
@@ -39,6 +40,12 @@ goes_to workers worker handled = handled.routed
 abbrev pub part_of : ℕ → ℕ → List Handled → List Pair
 part_of workers worker handled = map (λ handled. handled.pair)
     (filter (goes_to workers worker) handled)
+
+-- the message with these requests, unless there are none
+abbrev pub message_of : ℕ → List Request → List Asked
+message_of seen [] = []
+message_of seen (request ∷ requests) =
+    record { seen = seen; requests = request ∷ requests } ∷ []
 
 -- the message for this part of a group, unless the part is empty
 abbrev pub asked_by : ℕ → List Pair → List Asked
@@ -61,20 +68,82 @@ abbrev pub all_replied : ℕ → ℕ → List Exchange → List (List Reply)
 all_replied workers worker exchanges =
     flat_map (λ exchange. replied_by (part_of workers worker exchange.handled)) exchanges
 
+-- the greatest of the number and these
+abbrev pub greatest : ℕ → List ℕ → ℕ
+greatest number [] = number
+greatest number (next ∷ numbers) = greatest (max number next) numbers
+
+-- the greatest of the stamp and those of the exchanges
+abbrev pub seen_behind : ℕ → List Exchange → ℕ
+seen_behind seen [] = seen
+seen_behind seen (exchange ∷ exchanges) =
+    seen_behind (greatest seen (stamps (exchange_pairs exchange))) exchanges
+
+-- before each exchange the session had seen the greatest of the stamp and those before it
+abbrev pub HaveSeen : ℕ → List Exchange → Type 0
+HaveSeen seen [] = ⊤
+HaveSeen seen (exchange ∷ exchanges) = (exchange.seen ≡ seen)
+    × HaveSeen (greatest seen (stamps (exchange_pairs exchange))) exchanges
+
+-- a request of the group under way, and whether a worker was asked for it
+pub record Sent : Type 0 where
+  pub request : Request
+  pub routed : Bool
+
+-- this worker, of so many, was asked for it
+abbrev pub was_asked : ℕ → ℕ → Sent → Bool
+was_asked workers worker sent = sent.routed && owns workers worker (key_of sent.request)
+
+-- the requests that this worker, of so many, was asked for
+abbrev pub asked_of : ℕ → ℕ → List Sent → List Request
+asked_of workers worker sent = map (λ sent. sent.request) (filter (was_asked workers worker) sent)
+
+-- the answer to the message with these requests hasn't come, or has a reply to each
+abbrev pub HasCome : List Request → List (List Reply) → Type 0
+HasCome [] coming = coming ≡ []
+HasCome (request ∷ requests) coming = (coming ≡ []) ⊎ ((replies : List Reply)
+    × (coming ≡ replies ∷ []) × (length replies ≡ length (request ∷ requests)))
+
+-- no group is under way
+pub record IsStill (setting : Setting) (requests : List Request) (asking : ℕ → List Asked)
+    (coming : ℕ → List (List Reply)) : Type 0 where
+  pub none : requests ≡ []
+  pub asks : (worker : ℕ) → worker < setting.workers → asking worker ≡ []
+  pub hears : (worker : ℕ) → worker < setting.workers → coming worker ≡ []
+
+-- the group of these requests is under way: each worker was asked for those of its own that the
+-- session doesn't answer itself
+pub record IsUnderWay (setting : Setting) (seen : ℕ) (requests : List Request)
+    (asking : ℕ → List Asked) (coming : ℕ → List (List Reply)) : Type 0 where
+  pub sent : List Sent
+  pub same : requests ≡ map (λ sent. sent.request) sent
+  pub asks : (worker : ℕ) → worker < setting.workers
+      → asking worker ≡ message_of seen (asked_of setting.workers worker sent)
+  pub hears : (worker : ℕ) → worker < setting.workers
+      → HasCome (asked_of setting.workers worker sent) (coming worker)
+
+-- the group is under way where the session waits, and else there is none
+abbrev pub IsPending : Bool → Setting → ℕ → List Request → (ℕ → List Asked)
+    → (ℕ → List (List Reply)) → Type 0
+IsPending false setting seen requests asking coming = IsStill setting requests asking coming
+IsPending true setting seen requests asking coming =
+    IsUnderWay setting seen requests asking coming
+
 -- the session routed each request to its owner, answered each group when all replies had come, and
--- told the workers what it had seen; asking and coming are of the group under way
+-- told the workers what it had seen; asking and coming are of the group under way, which has these
+-- requests
 pub record AsksGroups (setting : Setting) (asked : ℕ → List Asked)
-    (heard : ℕ → List (List Reply)) (groups : List (List Pair)) (waiting : Bool) : Type 0 where
+    (heard : ℕ → List (List Reply)) (groups : List (List Pair)) (requests : List Request)
+    (waiting : Bool) : Type 0 where
   pub exchanges : List Exchange
   pub asking : ℕ → List Asked
   pub coming : ℕ → List (List Reply)
-  pub none : waiting ≡ false → (worker : ℕ) → worker < setting.workers → coming worker ≡ []
   pub same : groups ≡ map exchange_pairs exchanges
   pub asks : (worker : ℕ) → worker < setting.workers
       → asked worker ≡ all_asked setting.workers worker exchanges ++ asking worker
   pub hears : (worker : ℕ) → worker < setting.workers
       → heard worker ≡ all_replied setting.workers worker exchanges ++ coming worker
-  pub seen : Pairwise (λ exchange next. AllByRecursion (λ stamp. stamp ≤ next.seen)
-      (stamps (exchange_pairs exchange))) exchanges
-  pub handled : AllByRecursion (λ exchange. AllByRecursion (IsHandled setting.told setting.layout)
+  pub seen : HaveSeen 0 exchanges
+  pub handled : AllByRecursion (λ exchange. AllByRecursion (IsHandled setting.layout)
       exchange.handled) exchanges
+  pub pending : IsPending waiting setting (seen_behind 0 exchanges) requests asking coming

@@ -3,4 +3,7 @@
 
 mod laws;
 
-pub use laws::{kept_items_begin, owes_none, promises_end, promises_join, recovery_joins};
+pub use laws::{
+    kept_items_begin, numbers_are_few, owes_none, promises_end, promises_join, recovery_joins,
+    session_begins, spent_has_cause, stands_once, worker_begins,
+};

@@ -1,8 +1,6 @@
-use Rattle.kv_parties.proofs.Joining.{stands, sessions_agree}
+use Rattle.kv_parties.proofs.Standing.{stands, sessions_stand}
 use Rattle.kv_parties.proofs.laws.promises_join.Goals as goal
 
 pub returns : goal.returns
-returns c = λ setting before rings ranges groups waiting base keep. (
-  stands setting before rings ranges groups waiting keep base,
-  sessions_agree setting before rings ranges groups waiting keep base,
-)
+returns g c = λ setting parties base keep passed.
+    (stands _ setting parties base keep passed, sessions_stand _ setting parties base keep passed)

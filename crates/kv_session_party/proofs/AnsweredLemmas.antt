@@ -9,7 +9,7 @@ use Rattle.kv_base.specs.declared.reply.Reply.{Reply}
 use Rattle.kv_model.proofs.PairwiseLemmas.{All-map}
 use Rattle.kv_ring.specs.declared.task.Task.{Task}
 use Rattle.kv_session_party.specs.Promise.{StandsIn}
-use Rattle.kv_session_party.specs.Asking.{IsReplied}
+use Rattle.kv_parties.specs.Messages.{IsReplied}
 use Rattle.kv_session_party.specs.Routes.{AreAnswered, ArePlaces, IsPlace, IsKnown, HasReply, all_here}
 use Rattle.kv_session_party.specs.Routes.{is_at, is_away, goes_to, part_for, part_of, tasks_here, no_part}
 use Rattle.kv_session_party.specs.Routes.{replies_in}

@@ -2,7 +2,7 @@
 use Rattle.std.proofs.Common.{◌≡◌, ◌⊎◌, inl, inr, ℕ, ◌≤◌, List, [], ◌∷◌, ◌++◌, length, refl, ap, arith}
 use Rattle.kv_ring.specs.declared.message.Answer.{Answer}
 use Rattle.kv_ring.specs.declared.message.Ask.{Ask}
-use Rattle.kv_session_party.specs.Asking.{Hears, IsAnswerTo}
+use Rattle.kv_parties.specs.Messages.{Hears, IsAnswerTo}
 
 module _ {F : Type 0} where
   hears-none : (messages : List (Ask F)) (heard : List (Answer F)) → heard ≡ []

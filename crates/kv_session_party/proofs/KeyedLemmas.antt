@@ -17,11 +17,12 @@ use Rattle.kv_session.specs.Session.{SessionState}
 filtered : {X : Type 0} (p : X → Bool) (xs : List X)
     → AllByRecursion (λ x. p x ≡ true) (filter p xs)
 filtered p [] = tt
-filtered p (x ∷ xs) = by (p x) refl
+filtered p (x ∷ xs) = by (p x) refl (filtered p xs)
   where
-    by : (b : Bool) → p x ≡ b → AllByRecursion (λ y. p y ≡ true) (cond b (x ∷ filter p xs) (filter p xs))
-    by true holds = (holds, filtered p xs)
-    by false fails = filtered p xs
+    by : (b : Bool) → p x ≡ b → AllByRecursion (λ y. p y ≡ true) (filter p xs)
+        → AllByRecursion (λ y. p y ≡ true) (cond b (x ∷ filter p xs) (filter p xs))
+    by true holds more = (holds, more)
+    by false fails more = more
 
 replied-keyed : (request : Request) → has_reply request ≡ true → IsSome (key_of request)
 replied-keyed (Put key value) e = refl

@@ -30,8 +30,9 @@ use Rattle.kv_ring.specs.declared.message.Ask.{Ask}
 use Rattle.kv_ring.specs.declared.task.Task.{Task}
 use Rattle.kv_session.specs.Passage.{with_pairs}
 use Rattle.kv_session.specs.Tasks.{AreTaken, GoesOn, IsRefused}
-use Rattle.kv_session_party.specs.Asking.{IsHandled, HaveSeen, seen_behind, greatest, message_of}
-use Rattle.kv_session_party.specs.Asking.{IsReplied, SessionPromise}
+use Rattle.kv_parties.specs.Sessions.{IsHandled, HaveSeen, seen_behind, greatest, message_of}
+use Rattle.kv_parties.specs.Messages.{IsReplied}
+use Rattle.kv_parties.specs.Promises.{SessionPromise}
 use Rattle.kv_session_party.specs.Promise.{Keeps, StandsIn, IsOwed, handled_by}
 use Rattle.kv_session_party.specs.Routes.{RoutesState, IsMerged, ArePlaces, IsPlace, HaveOwn}
 use Rattle.kv_session_party.specs.Routes.{IsOwn, part_of, part_for, goes_to, is_at, replies_at}

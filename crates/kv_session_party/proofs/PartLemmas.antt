@@ -14,7 +14,7 @@ use Rattle.kv_base.specs.declared.reply.Reply.TheVariants.{Malformed}
 use Rattle.kv_model.specs.Frames.{HasReplyFrame}
 use Rattle.kv_model.specs.Pairs.{stamp_of}
 use Rattle.kv_ring.specs.declared.task.Task.{Task}
-use Rattle.kv_session_party.specs.Asking.{IsReplied}
+use Rattle.kv_parties.specs.Messages.{IsReplied}
 use Rattle.kv_session_party.specs.Routes.{is_stamp, is_good, has_reply, have_replies, answers_all}
 use Rattle.kv_session_party.specs.Routes.{replies_in}
 use Rattle.kv_session_party.proofs.MergeLemmas.{replies-more}

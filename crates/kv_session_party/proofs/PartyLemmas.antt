@@ -20,7 +20,7 @@ use Rattle.kv_session.specs.Session.{SessionState, EndsGroup}
 use Rattle.kv_session.specs.declared.gathered.Gathered.{Gathered}
 use Rattle.kv_session.specs.declared.gathered.Gathered.TheVariants.{More, Ending as EndingOf}
 use Rattle.kv_session.specs.declared.ending.Ending.{Ending}
-use Rattle.kv_session_party.specs.Asking.{takes_message, Hears}
+use Rattle.kv_parties.specs.Messages.{takes_message, Hears}
 use Rattle.kv_session_party.specs.Exchanges.{Asks, Receives, part_behind_came, is_owed}
 use Rattle.kv_session_party.specs.Links.{waiting_for, told_to}
 use Rattle.kv_session_party.specs.Party.{WaitsAway, ends_reading}
@@ -151,6 +151,7 @@ abbrev pub some_setting : ℕ → Setting
 some_setting workers = record {
   told = false;
   layout = all_classes;
+  slots = 0;
   floor = 0;
   sessions = 0;
   workers = workers;
@@ -165,7 +166,7 @@ pub Tells-new : {So Si F : Type 0} (streams : Streams So Si) (setting : Setting)
     → ((worker : ℕ) → received worker ≡ []) → length routes.parts ≡ setting.workers
     → now.ending ≡ None → HasRead streams source sink [] [] now
     → Tells streams setting source sink now sent received 0 routes false
-Tells-new streams setting source sink now sent received routes none nothing size going read =
+Tells-new {F = F} streams setting source sink now sent received routes none nothing size going read =
     let messages : (worker : ℕ) → all_asking (sent worker) ≡ [] = λ worker.
     ap all_asking (none worker) in
     record {

@@ -26,9 +26,12 @@ use Rattle.kv_ring.specs.declared.message.Ask.TheVariants as ask
 use Rattle.kv_ring.specs.declared.task.Task.{Task}
 use Rattle.kv_ring.specs.Tasks.{requests_of}
 use Rattle.kv_session.specs.Tasks.{AreTaken, GoesOn, IsRefused}
-use Rattle.kv_session_party.specs.Asking.{SessionPromise, IsUnderWay, Sent, HasCome, IsReplied, Hears}
-use Rattle.kv_session_party.specs.Asking.{IsAnswerTo, takes_message, message_of, asked_of, was_asked}
-use Rattle.kv_session_party.specs.Asking.{seen_behind}
+use Rattle.kv_parties.specs.Messages.{IsReplied, Hears}
+use Rattle.kv_parties.specs.Promises.{SessionPromise}
+use Rattle.kv_parties.specs.Sessions.{IsUnderWay, Sent, HasCome}
+use Rattle.kv_parties.specs.Messages.{IsAnswerTo, takes_message}
+use Rattle.kv_parties.specs.Sessions.{message_of, asked_of, was_asked}
+use Rattle.kv_parties.specs.Sessions.{seen_behind}
 use Rattle.kv_session_party.specs.Exchanges.{part_behind_came, message_for}
 use Rattle.kv_session_party.specs.Promise.{Keeps, StandsIn, IsOwed, AwaitsLast, IsOnWay}
 use Rattle.kv_session_party.specs.Routes.{RoutesState, ArePlaces, part_of, part_for, part_with, goes_to}
@@ -112,6 +115,102 @@ come-part (task ∷ items) coming (Here answer) stands =
     let all = stands.1 in
     inr (replies_in answer.items, stands.0, omega (arith, size, many, all))
 
+eq-of : (m n : ℕ) → nat_eq m n ≡ true → m ≡ n
+eq-of m n e = grind (arith, nat_tests)
+
+both-of : (a b : Bool) → (a && b) ≡ true → a ≡ true
+both-of true b e = refl
+both-of false b e = e
+
+-- the answer to tasks that are away
+away-has : (F : Type 0) (task : Task) (mine : List Task) (coming : List (List Reply)) (count : ℕ)
+    (later : Part) (tasks : Reserved Task) → later ≡ part_with tasks (Away count)
+    → (answers_all count tasks.items ≡ true → AllByRecursion IsReplied (tasks_here later))
+    → StandsIn (task ∷ mine) coming (Away count)
+    → StandsIn (task ∷ mine) (coming ++ replies_of (answered_in
+    (cond (answers_all count tasks.items) (answer.Group {F = F} tasks ∷ []) []))) later
+away-has F task mine coming count later tasks is replied has =
+    (elim (answers_all count tasks.items) as (λ b. answers_all count tasks.items ≡ b
+    → StandsIn (task ∷ mine) (coming
+    ++ replies_of (answered_in (cond b (answer.Group {F = F} tasks ∷ []) []))) later) [
+      | true ↦ λ holds.
+          let here : later ≡ Here tasks = is ∙ ap (λ b. cond b (Here tasks) (Away count)) holds in
+          let items : AllByRecursion IsReplied tasks.items =
+          subst (λ p. AllByRecursion IsReplied (tasks_here p)) here (replied holds) in
+          let size : length tasks.items ≡ count =
+          eq-of (length tasks.items) count (both-of (nat_eq (length tasks.items) count)
+          (have_replies tasks.items) holds) in
+          subst (λ p. StandsIn (task ∷ mine) (coming ++ replies_in tasks.items ∷ []) p) (sym here) (
+            ap (λ (xs : List (List Reply)). xs ++ replies_in tasks.items ∷ []) has.0,
+            size ∙ has.1,
+            items,
+          )
+      | false ↦ λ fails.
+          let away : later ≡ Away count = is ∙ ap (λ b. cond b (Here tasks) (Away count)) fails in
+          subst₂ (λ (xs : List (List Reply)) (p : Part). StandsIn (task ∷ mine) xs p)
+          (sym (append-nil coming)) (sym away) has
+    ]) refl
+
+message-few : (F : Type 0) (seen : ℕ) (tasks : Option (Reserved Task))
+    → length (all_asking (message_for {F = F} seen tasks)) ≤ 1
+message-few F seen None = omega arith
+message-few F seen (Some tasks) = omega arith
+
+module _ (F : Type 0) where
+  -- what is asked of a worker, and its part behind it
+  pub record GoesOut (seen : ℕ) (items : List Task) (part : Part) : Type 0 where
+    pub asks : groups_in (message_for {F = F} seen (tasks_out part))
+        ≡ message_of seen (requests_of items)
+    pub come : StandsIn items [] (part_out part)
+    pub owed : (messages : List (Ask F)) (heard : List (Answer F))
+        → length messages ≡ length heard → IsOwed (part_out part)
+        (messages ++ all_asking (message_for {F = F} seen (tasks_out part))) heard
+    pub takes : (test : Ask F → Bool)
+        → ((tasks : Reserved Task) → tasks.items ≡ items → test (ask.Group seen tasks) ≡ true)
+        → AllByRecursion (λ message. test message ≡ true)
+        (all_asking (message_for {F = F} seen (tasks_out part)))
+
+  goes-items : (seen : ℕ) (items : List Task) (tasks : Reserved Task) → tasks.items ≡ items
+      → (groups_in (message_for {F = F} seen (some_tasks items tasks))
+      ≡ message_of seen (requests_of items))
+      × StandsIn items [] (part_behind items (Here tasks))
+      × ((messages : List (Ask F)) (heard : List (Answer F)) → length messages ≡ length heard
+      → IsOwed (part_behind items (Here tasks))
+      (messages ++ all_asking (message_for {F = F} seen (some_tasks items tasks))) heard)
+      × ((test : Ask F → Bool)
+      → ((others : Reserved Task) → others.items ≡ items → test (ask.Group seen others) ≡ true)
+      → AllByRecursion (λ message. test message ≡ true)
+      (all_asking (message_for {F = F} seen (some_tasks items tasks))))
+  goes-items seen [] tasks is = (
+    refl,
+    (refl, is),
+    λ messages heard same. ap length (append-nil messages) ∙ same,
+    λ test holds. tt,
+  )
+  goes-items seen (task ∷ items) tasks is =
+      let group : List Task → List Asked = λ xs.
+      record { seen = seen; requests = requests_of xs } ∷ [] in (
+        ap group is,
+        (refl, refl),
+        λ messages heard same. record {
+          earlier = messages;
+          seen = seen;
+          tasks = tasks;
+          messages_are = refl;
+          heard_all = same;
+          many = ap length is;
+        },
+        λ test holds. (holds tasks is, tt),
+      )
+
+  goes-out : (seen : ℕ) (items : List Task) (part : Part) → HasTasks part items
+      → GoesOut seen items part
+  goes-out seen items (Away count) has = absurd has
+  goes-out seen items (Here tasks) has =
+      let all = goes-items seen tasks.items tasks refl in
+      subst (λ (xs : List Task). GoesOut seen xs (Here tasks)) has
+      (record { asks = all.0; come = all.1; owed = all.2; takes = all.3 })
+
 module _ {F : Type 0} where
   -- what is kept of the group gives what the promise says of it
   pub under-way : (setting : Setting) (seen high : ℕ) (sent : ℕ → List (Ask F))
@@ -164,7 +263,7 @@ module _ {F : Type 0} where
     asking = λ worker lt. ap all_asking (bye worker lt) ∙ asking-bye (sent worker);
   }
 
-  pub promise-same : (setting : Setting) (sent later : ℕ → List (Ask F))
+  abbrev pub promise-same : (setting : Setting) (sent later : ℕ → List (Ask F))
       (received now : ℕ → List (Answer F)) (groups : List (List Pair)) (asked : List Request)
       (waiting : Bool) → TellsSame setting.workers sent later
       → ((worker : ℕ) → now worker ≡ received worker)
@@ -242,42 +341,6 @@ module _ {F : Type 0} where
       (sym (ap (λ b. coming ++ replies_of (answered_in (cond b (answer ∷ []) []))) fails
       ∙ append-nil coming)) (sym is) has
 
-  eq-of : (m n : ℕ) → nat_eq m n ≡ true → m ≡ n
-  eq-of m n e = grind (arith, nat_tests)
-
-  both-of : (a b : Bool) → (a && b) ≡ true → a ≡ true
-  both-of true b e = refl
-  both-of false b e = e
-
-  -- the answer to tasks that are away
-  away-has : (task : Task) (mine : List Task) (coming : List (List Reply)) (count : ℕ) (later : Part)
-      (tasks : Reserved Task) → later ≡ part_with tasks (Away count)
-      → (answers_all count tasks.items ≡ true → AllByRecursion IsReplied (tasks_here later))
-      → StandsIn (task ∷ mine) coming (Away count)
-      → StandsIn (task ∷ mine)
-      (coming ++ replies_of (answered_in (taken_of (Away count) (Some (answer.Group tasks))))) later
-  away-has task mine coming count later tasks is replied has =
-      (elim (answers_all count tasks.items) as (λ b. answers_all count tasks.items ≡ b
-      → StandsIn (task ∷ mine) (coming
-      ++ replies_of (answered_in (cond b (answer.Group tasks ∷ []) []))) later) [
-        | true ↦ λ holds.
-            let here : later ≡ Here tasks = is ∙ ap (λ b. cond b (Here tasks) (Away count)) holds in
-            let items : AllByRecursion IsReplied tasks.items =
-            subst (λ p. AllByRecursion IsReplied (tasks_here p)) here (replied holds) in
-            let size : length tasks.items ≡ count =
-            eq-of (length tasks.items) count (both-of (nat_eq (length tasks.items) count)
-            (have_replies tasks.items) holds) in
-            subst (λ p. StandsIn (task ∷ mine) (coming ++ replies_in tasks.items ∷ []) p) (sym here) (
-              ap (λ (xs : List (List Reply)). xs ++ replies_in tasks.items ∷ []) has.0,
-              size ∙ has.1,
-              items,
-            )
-        | false ↦ λ fails.
-            let away : later ≡ Away count = is ∙ ap (λ b. cond b (Here tasks) (Away count)) fails in
-            subst₂ (λ (xs : List (List Reply)) (p : Part). StandsIn (task ∷ mine) xs p)
-            (sym (append-nil coming)) (sym away) has
-      ]) refl
-
   come-answer : (mine : List Task) (coming : List (List Reply)) (part later : Part)
       (answer : Answer F) → later ≡ part_after part answer
       → (is_taken part answer ≡ true → AllByRecursion IsReplied (tasks_here later))
@@ -295,7 +358,7 @@ module _ {F : Type 0} where
       passed-has mine coming (Here items) later (answer.Group tasks) is refl has
   come-answer [] coming (Away count) later (answer.Group tasks) is replied has = absurd has.1
   come-answer (task ∷ mine) coming (Away count) later (answer.Group tasks) is replied has =
-      away-has task mine coming count later tasks is replied has
+      away-has F task mine coming count later tasks is replied has
 
   -- what came of a worker's tasks, behind what came before
   come-more : (mine : List Task) (coming : List (List Reply)) (part later : Part)
@@ -490,65 +553,6 @@ module _ {F : Type 0} where
 
   -- ---- a group is asked
 
-  message-few : (seen : ℕ) (tasks : Option (Reserved Task))
-      → length (all_asking (message_for {F = F} seen tasks)) ≤ 1
-  message-few seen None = omega arith
-  message-few seen (Some tasks) = omega arith
-
-  -- what is asked of a worker, and its part behind it
-  pub record GoesOut (seen : ℕ) (items : List Task) (part : Part) : Type 0 where
-    pub asks : groups_in (message_for {F = F} seen (tasks_out part))
-        ≡ message_of seen (requests_of items)
-    pub come : StandsIn items [] (part_out part)
-    pub owed : (messages : List (Ask F)) (heard : List (Answer F))
-        → length messages ≡ length heard → IsOwed (part_out part)
-        (messages ++ all_asking (message_for {F = F} seen (tasks_out part))) heard
-    pub takes : (test : Ask F → Bool)
-        → ((tasks : Reserved Task) → tasks.items ≡ items → test (ask.Group seen tasks) ≡ true)
-        → AllByRecursion (λ message. test message ≡ true)
-        (all_asking (message_for {F = F} seen (tasks_out part)))
-
-  goes-items : (seen : ℕ) (items : List Task) (tasks : Reserved Task) → tasks.items ≡ items
-      → (groups_in (message_for {F = F} seen (some_tasks items tasks))
-      ≡ message_of seen (requests_of items))
-      × StandsIn items [] (part_behind items (Here tasks))
-      × ((messages : List (Ask F)) (heard : List (Answer F)) → length messages ≡ length heard
-      → IsOwed (part_behind items (Here tasks))
-      (messages ++ all_asking (message_for {F = F} seen (some_tasks items tasks))) heard)
-      × ((test : Ask F → Bool)
-      → ((others : Reserved Task) → others.items ≡ items → test (ask.Group seen others) ≡ true)
-      → AllByRecursion (λ message. test message ≡ true)
-      (all_asking (message_for {F = F} seen (some_tasks items tasks))))
-  goes-items seen [] tasks is = (
-    refl,
-    (refl, is),
-    λ messages heard same. ap length (append-nil messages) ∙ same,
-    λ test holds. tt,
-  )
-  goes-items seen (task ∷ items) tasks is =
-      let group : List Task → List Asked = λ xs.
-      record { seen = seen; requests = requests_of xs } ∷ [] in (
-        ap group is,
-        (refl, refl),
-        λ messages heard same. record {
-          earlier = messages;
-          seen = seen;
-          tasks = tasks;
-          messages_are = refl;
-          heard_all = same;
-          many = ap length is;
-        },
-        λ test holds. (holds tasks is, tt),
-      )
-
-  goes-out : (seen : ℕ) (items : List Task) (part : Part) → HasTasks part items
-      → GoesOut seen items part
-  goes-out seen items (Away count) has = absurd has
-  goes-out seen items (Here tasks) has =
-      let all = goes-items seen tasks.items tasks refl in
-      subst (λ (xs : List Task). GoesOut seen xs (Here tasks)) has
-      (record { asks = all.0; come = all.1; owed = all.2; takes = all.3 })
-
   -- a group was read and routed, and each worker was asked for its part
   pub keeps-asked : (setting : Setting) (sent later : ℕ → List (Ask F))
       (received now : ℕ → List (Answer F)) (groups : List (List Pair)) (seen : ℕ)
@@ -568,8 +572,8 @@ module _ {F : Type 0} where
       let n : ℕ = setting.workers in
       let message : ℕ → List (Ask F) = λ w.
       message_for seen (tasks_out (part_of routes.parts w)) in
-      let out : (w : ℕ) → w < n → GoesOut seen (part_for n w tasks) (part_of routes.parts w) =
-      λ w lt. goes-out seen (part_for n w tasks) (part_of routes.parts w)
+      let out : (w : ℕ) → w < n → GoesOut F seen (part_for n w tasks) (part_of routes.parts w) =
+      λ w lt. goes-out F seen (part_for n w tasks) (part_of routes.parts w)
       (subst (λ m. HasTasks (part_of routes.parts w) (part_for m w tasks)) many
       (r.parts w (omega (arith, many, lt)))) in
       let messages_are : (w : ℕ) → all_asking (later w)
@@ -609,7 +613,7 @@ module _ {F : Type 0} where
               (p.hears w lt));
           owed = λ w lt.
               let was = p.quiet refl w lt in let a = asking_is w in
-              let most = message-few seen (tasks_out (part_of routes.parts w)) in
+              let most = message-few F seen (tasks_out (part_of routes.parts w)) in
               omega (arith, was, a, most);
           quiet = λ e. absurd (true≢false e);
           asks = record {

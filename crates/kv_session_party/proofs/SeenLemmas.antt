@@ -7,7 +7,7 @@ use Rattle.kv_base.specs.declared.reply.Reply.{Reply}
 use Rattle.kv_model.specs.Pairs.{stamp_of}
 use Rattle.kv_ring.specs.declared.task.Task.{Task}
 use Rattle.kv_session.specs.Tasks.{HaveReplies}
-use Rattle.kv_session_party.specs.Asking.{greatest}
+use Rattle.kv_parties.specs.Sessions.{greatest}
 use Rattle.kv_session_party.specs.Party.{greatest_in, stamp_in}
 
 max-zero : (n : ℕ) → max n 0 ≡ n
@@ -48,12 +48,10 @@ pub stamps-low : (replies : List Reply)
     → AllByRecursion (λ reply. IfSome (stamp_of reply) (λ stamp. stamp < 2 ^ 62)) replies
     → AllByRecursion (λ n. n < 2 ^ 62) (filter_map stamp_of replies)
 stamps-low [] all = tt
-stamps-low (reply ∷ replies) all = by (stamp_of reply) all.0
+stamps-low (reply ∷ replies) all = by (stamp_of reply) all.0 (stamps-low replies all.1)
   where
-    more : AllByRecursion (λ n. n < 2 ^ 62) (filter_map stamp_of replies)
-    more = stamps-low replies all.1
-
     by : (o : Option ℕ) → IfSome o (λ stamp. stamp < 2 ^ 62)
+        → AllByRecursion (λ n. n < 2 ^ 62) (filter_map stamp_of replies)
         → AllByRecursion (λ n. n < 2 ^ 62) (cons_option o (filter_map stamp_of replies))
-    by None low = more
-    by (Some stamp) low = (low, more)
+    by None low more = more
+    by (Some stamp) low more = (low, more)

@@ -13,7 +13,7 @@ use Rattle.kv_model.specs.Pairs.{key_of}
 use Rattle.kv_parties.specs.Setting.{owns}
 use Rattle.kv_ring.specs.declared.task.Task.{Task}
 use Rattle.kv_session.specs.Tasks.{AreTaken, GoesOn, IsRefused}
-use Rattle.kv_session_party.specs.Asking.{takes_task, takes_each, takes_all}
+use Rattle.kv_parties.specs.Messages.{takes_task, takes_each, takes_all}
 use Rattle.kv_session_party.specs.Routes.{goes_to, part_for}
 
 pub and-both : (a b : Bool) → a ≡ true → b ≡ true → (a && b) ≡ true

@@ -21,7 +21,8 @@ use Rattle.kv_session.specs.Passage.{Streams, HasRead, Delivers, with_pairs}
 use Rattle.kv_session.specs.Session.{SessionState}
 use Rattle.kv_session.specs.Tasks.{AreTaken}
 use Rattle.kv_session.specs.declared.ending.Ending.{Ending}
-use Rattle.kv_session_party.specs.Asking.{IsReplied, greatest}
+use Rattle.kv_parties.specs.Messages.{IsReplied}
+use Rattle.kv_parties.specs.Sessions.{greatest}
 use Rattle.kv_session_party.specs.Exchanges.{message_for, part_behind_came}
 use Rattle.kv_session_party.specs.Promise.{Tells, Keeps, HasCourse, IsServed, IsOnWay}
 use Rattle.kv_session_party.specs.Routes.{RoutesState, IsRouted, IsMerged, AreAnswered}
@@ -72,6 +73,33 @@ module _ {F : Type 0} (setting : Setting) (sent : ℕ → List (Ask F))
       (sym (m.by_worker worker))
       (replied-framed (tasks_here (part_of routes.parts worker)) (replied-each worker)))
 
+module _ {So Si : Type 0} (streams : Streams So Si) (source : So) (sink : Si) where
+  -- a session that goes on has read
+  course-read : (now : SessionState So Si) (groups : List (List Pair)) (asked : List Request)
+      (waiting : Bool) → now.ending ≡ None
+      → HasCourse streams source sink groups asked waiting now now.ending
+      → HasRead streams source sink groups asked now
+  course-read now groups asked waiting none course =
+      subst (λ o. HasCourse streams source sink groups asked waiting now o) none course
+
+  read-course : (now : SessionState So Si) (groups : List (List Pair)) (asked : List Request)
+      (waiting : Bool) → HasRead streams source sink groups asked now
+      → HasCourse streams source sink groups asked waiting now now.ending
+  read-course now groups asked waiting read =
+      subst (λ o. HasCourse streams source sink groups asked waiting now o) (sym read.goes_on) read
+
+  -- behind the replies the session goes on or has ended
+  course-of : (now : SessionState So Si) (groups : List (List Pair)) (closing : Option Cause)
+      (whole : Bool) → Delivers streams source sink groups closing now whole
+      → HasCourse streams source sink groups [] false now now.ending
+  course-of now groups None true read = read-course now groups [] false read
+  course-of now groups (Some cause) true ended =
+      subst (λ o. HasCourse streams source sink groups [] false now o) (sym ended.ending_is)
+      (ended.session, refl)
+  course-of now groups closing false ended =
+      subst (λ o. HasCourse streams source sink groups [] false now o) (sym ended.ending_is)
+      (ended.session, refl)
+
 module _ {So Si F : Type 0} (streams : Streams So Si) (setting : Setting) (source : So) (sink : Si)
   where
     -- the rings tell the same, but for what the promise doesn't speak of
@@ -87,20 +115,6 @@ module _ {So Si F : Type 0} (streams : Streams So Si) (setting : Setting) (sourc
           heard t.keeps;
       course = t.course;
     }
-
-    -- a session that goes on has read
-    course-read : (now : SessionState So Si) (groups : List (List Pair)) (asked : List Request)
-        (waiting : Bool) → now.ending ≡ None
-        → HasCourse streams source sink groups asked waiting now now.ending
-        → HasRead streams source sink groups asked now
-    course-read now groups asked waiting none course =
-        subst (λ o. HasCourse streams source sink groups asked waiting now o) none course
-
-    read-course : (now : SessionState So Si) (groups : List (List Pair)) (asked : List Request)
-        (waiting : Bool) → HasRead streams source sink groups asked now
-        → HasCourse streams source sink groups asked waiting now now.ending
-    read-course now groups asked waiting read =
-        subst (λ o. HasCourse streams source sink groups asked waiting now o) (sym read.goes_on) read
 
     -- a group was read, routed and asked
     pub Tells-asked : (old now : SessionState So Si) (sent later : ℕ → List (Ask F))
@@ -128,9 +142,9 @@ module _ {So Si F : Type 0} (streams : Streams So Si) (setting : Setting) (sourc
               asked tasks layout taken few r many told heard parts places size
               (subst (λ (rs : List Request). Keeps setting sent received t.groups seen before rs
               false) none t.keeps);
-          course = read-course now t.groups asked true (gathered t.groups
+          course = read-course streams source sink now t.groups asked true (gathered t.groups
               (subst (λ (rs : List Request). HasRead streams source sink t.groups rs old) none
-              (course-read old t.groups t.asked false going t.course)));
+              (course-read streams source sink old t.groups t.asked false going t.course)));
         }
 
     -- answers came
@@ -156,18 +170,6 @@ module _ {So Si F : Type 0} (streams : Streams So Si) (setting : Setting) (sourc
               came told heard parts replied unasked places size t.keeps;
           course = t.course;
         }
-
-    -- behind the replies the session goes on or has ended
-    course-of : (now : SessionState So Si) (groups : List (List Pair)) (closing : Option Cause)
-        (whole : Bool) → Delivers streams source sink groups closing now whole
-        → HasCourse streams source sink groups [] false now now.ending
-    course-of now groups None true read = read-course now groups [] false read
-    course-of now groups (Some cause) true ended =
-        subst (λ o. HasCourse streams source sink groups [] false now o) (sym ended.ending_is)
-        (ended.session, refl)
-    course-of now groups closing false ended =
-        subst (λ o. HasCourse streams source sink groups [] false now o) (sym ended.ending_is)
-        (ended.session, refl)
 
     -- the group's replies were merged and written
     pub Tells-merged : (old now : SessionState So Si) (sent : ℕ → List (Ask F))
@@ -196,7 +198,7 @@ module _ {So Si F : Type 0} (streams : Streams So Si) (setting : Setting) (sourc
           asked = [];
           keeps = keeps-merged setting sent received t.groups seen high routes after t.asked merged
               layout keyed here m up low size t.keeps;
-          course = course-of now (with_pairs t.groups (pairs_of t.asked merged)) old.closing whole
+          course = course-of streams source sink now (with_pairs t.groups (pairs_of t.asked merged)) old.closing whole
               delivered;
         }
 
@@ -216,7 +218,7 @@ module _ {So Si F : Type 0} (streams : Streams So Si) (setting : Setting) (sourc
         → Tells streams setting source sink now sent received high after false
     Tells-replied law old now sent received seen high routes after merged whole layout here m up size
         going delivered t =
-        let read = course-read old t.groups t.asked true going t.course in
+        let read = course-read streams source sink old t.groups t.asked true going t.course in
         let many : length merged ≡ length t.asked = HaveOwn-length routes.places merged m.own
         ∙ ArePlaces-length setting.workers t.keeps.way.tasks routes.places t.keeps.way.places
         ∙ AreTaken-length t.asked t.keeps.way.tasks t.keeps.way.taken in

@@ -9,7 +9,7 @@ use Rattle.kv_ring.specs.declared.message.Ask.{Ask}
 use Rattle.kv_ring.specs.declared.message.Ask.TheVariants as ask
 use Rattle.kv_ring.specs.declared.task.Task.{Task}
 use Rattle.kv_session_party.specs.Links.{told_to, heard_from, coming_from, waiting_for}
-use Rattle.kv_session_party.specs.Asking.{IsReplied}
+use Rattle.kv_parties.specs.Messages.{IsReplied}
 use Rattle.kv_session_party.specs.Routes.{RoutesState, part_of, tasks_out, part_out, tasks_here}
 use Rattle.kv_session_party.specs.Routes.{is_away, is_taken, part_after}
 use Rattle.kv_session_party.specs.declared.links.Links.{Links}

@@ -1,4 +1,3 @@
-pub mod Asking
 pub mod Routes
 pub mod Sending
 pub mod Links

@@ -20,7 +20,9 @@ use Rattle.kv_session.specs.Passage.{Streams, HasRead, HasSession}
 use Rattle.kv_session.specs.Session.{SessionState}
 use Rattle.kv_session.specs.Tasks.{AreTaken}
 use Rattle.kv_session.specs.declared.ending.Ending.{Ending}
-use Rattle.kv_session_party.specs.Asking.{SessionPromise, IsReplied, message_of, seen_behind}
+use Rattle.kv_parties.specs.Messages.{IsReplied}
+use Rattle.kv_parties.specs.Promises.{SessionPromise}
+use Rattle.kv_parties.specs.Sessions.{message_of, seen_behind}
 use Rattle.kv_session_party.specs.Routes.{RoutesState, ArePlaces, HasTasks, part_for}
 use Rattle.kv_session_party.specs.Routes.{part_of, replies_in}
 use Rattle.kv_session_party.specs.declared.part.Part.{Part}

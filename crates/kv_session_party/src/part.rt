@@ -2,7 +2,7 @@ ghost use Rattle.std.specs.Prelude.{◌≡◌, ◌<◌, ◌≤◌, ◌^◌, ◌�
 ghost use Rattle.std.specs.List.{AllByRecursion};
 ghost use Rattle.kv_model.specs.Frames.{HasReplyFrame};
 ghost use Rattle.kv_model.specs.Pairs.{stamp_of};
-ghost use Rattle.kv_session_party.specs.Asking.{IsReplied};
+ghost use Rattle.kv_parties.specs.Messages.{IsReplied};
 ghost use Rattle.kv_session_party.specs.Routes.{AddsTask, tasks_out, part_out, part_after, is_taken};
 ghost use Rattle.kv_session_party.specs.Routes.{is_stamp, is_good, has_reply, have_replies};
 ghost use Rattle.kv_session_party.specs.Routes.{answers_all, is_away, part_with, takes_tasks};

@@ -9,7 +9,7 @@ ghost use Rattle.kv_ring.specs.declared.task.Task.{Task as TaskOf};
 ghost use Rattle.kv_session.specs.Tasks.{HaveReplies};
 ghost use Rattle.kv_session_party.specs.Routes.{IsRouted, IsBare, IsRoutable, IsKept, AreKept, IsPlaced, IsPut};
 ghost use Rattle.kv_session_party.specs.Routes.{part_of, tasks_out, part_out, is_away, part_after};
-ghost use Rattle.kv_session_party.specs.Asking.{IsReplied};
+ghost use Rattle.kv_parties.specs.Messages.{IsReplied};
 ghost use Rattle.kv_session_party.specs.Routes.{is_taken, tasks_here, AreAnswered, IsMerged};
 ghost use Rattle.kv_session_party.specs.Routes.{replies_in, all_here, IsReady, RepliesAt};
 

@@ -1,3 +1,5 @@
+ghost use Rattle.std.specs.Prelude.{◌≡◌, ◌≤◌};
+
 use super::*;
 use kv_base::{Bytes, Calls, Cause, MemSink, MemSource, NoMemory, Reply, Request};
 use kv_ring::{Answer, Ask, Task, Tasks, Turn, WorkerEnds, mesh};
@@ -20,9 +22,12 @@ struct Made {
     stamps: Stamps,
     party: SessionParty<MemSource, MemSink, u8>,
     workers: Vec<WorkerEnds<u8>>,
+    ghost seat: { party.seat.counter ≡ stamps },
 }
 
-fn make(alloc: Global, input: &[u8], workers: u32) -> Result<Option<Made>, NoMemory> {
+fn make(alloc: Global, input: &[u8], workers: u32) -> Result<Option<Made>, NoMemory>
+    requires { (1 ≤ workers) × (workers ≤ 16) }
+{
     let source = MemSource::new(Bytes::copy(alloc, input)?, 4_096, Calls::none());
     let sink = MemSink::new(alloc, 999, Calls::none())?;
     let (mut sessions, workers) = mesh(alloc, 1, workers)?;
@@ -76,6 +81,9 @@ fn answer_all(tasks: &mut Tasks) {
 // Answers the session's next message. It tells how many tasks that had, 99 for a Bye, and `None`
 // where none came.
 fn serve(worker: &mut WorkerEnds<u8>) -> Option<usize> {
+    if worker.peers() == 0 {
+        return None;
+    }
     match worker.pop(0) {
         Some(Ask::Group { mut tasks, .. }) => {
             answer_all(&mut tasks);

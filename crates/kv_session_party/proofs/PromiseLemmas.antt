@@ -122,17 +122,21 @@ both-of : (a b : Bool) → (a && b) ≡ true → a ≡ true
 both-of true b e = refl
 both-of false b e = e
 
+-- the answer with these tasks
+abbrev group_answer : (F : Type 0) → Reserved Task → Answer F
+group_answer F tasks = answer.Group tasks
+
 -- the answer to tasks that are away
 away-has : (F : Type 0) (task : Task) (mine : List Task) (coming : List (List Reply)) (count : ℕ)
     (later : Part) (tasks : Reserved Task) → later ≡ part_with tasks (Away count)
     → (answers_all count tasks.items ≡ true → AllByRecursion IsReplied (tasks_here later))
     → StandsIn (task ∷ mine) coming (Away count)
     → StandsIn (task ∷ mine) (coming ++ replies_of (answered_in
-    (cond (answers_all count tasks.items) (answer.Group {F = F} tasks ∷ []) []))) later
+    (cond (answers_all count tasks.items) (group_answer F tasks ∷ []) []))) later
 away-has F task mine coming count later tasks is replied has =
     (elim (answers_all count tasks.items) as (λ b. answers_all count tasks.items ≡ b
     → StandsIn (task ∷ mine) (coming
-    ++ replies_of (answered_in (cond b (answer.Group {F = F} tasks ∷ []) []))) later) [
+    ++ replies_of (answered_in (cond b (group_answer F tasks ∷ []) []))) later) [
       | true ↦ λ holds.
           let here : later ≡ Here tasks = is ∙ ap (λ b. cond b (Here tasks) (Away count)) holds in
           let items : AllByRecursion IsReplied tasks.items =
@@ -600,10 +604,10 @@ module _ {F : Type 0} where
       } in
       record {
         promise = record {
-          taken = λ w lt. subst (AllByRecursion (λ m. takes_message setting.layout w n m ≡ true))
-              (sym (messages_are w)) (All-append (λ m. takes_message setting.layout w n m ≡ true)
+          taken = λ w lt. subst (AllByRecursion (λ (m : Ask F). takes_message setting.layout w n m ≡ true))
+              (sym (messages_are w)) (All-append (λ (m : Ask F). takes_message setting.layout w n m ≡ true)
               (all_asking (sent w)) (all_asking (message w)) (p.taken w lt)
-              ((out w lt).takes (takes_message setting.layout w n) (λ others is.
+              ((out w lt).takes (takes_message {F = F} setting.layout w n) (λ others is.
               subst (λ l. takes_message l w n (ask.Group seen others) ≡ true) (sym layout)
               (takes-group n w seen asked tasks others.items taken few k.limit is))));
           heard = p.heard;

@@ -591,6 +591,8 @@ module _ {F : Type 0} where
       let most = p.quiet refl w lt in
       let least = Hears-length (all_asking (sent w)) (received w) (p.heard w) (p.hears w lt) in
       omega (arith, most, least) in
+      let IsTaken : ℕ → Ask F → Type 0 = λ w m.
+      takes_message {F = F} setting.layout w n m ≡ true in
       let asking_now : ℕ → List Asked = λ w. message_of seen (requests_of (part_for n w tasks)) in
       let way : IsOnWay setting seen later p.heard asking_now (λ w. []) after asked = record {
         tasks = tasks;
@@ -604,11 +606,10 @@ module _ {F : Type 0} where
       } in
       record {
         promise = record {
-          taken = λ w lt. subst (AllByRecursion (λ (m : Ask F). takes_message setting.layout w n m ≡ true))
-              (sym (messages_are w)) (All-append (λ (m : Ask F). takes_message setting.layout w n m ≡ true)
-              (all_asking (sent w)) (all_asking (message w)) (p.taken w lt)
+          taken = λ w lt. subst (AllByRecursion (IsTaken w)) (sym (messages_are w))
+              (All-append (IsTaken w) (all_asking (sent w)) (all_asking (message w)) (p.taken w lt)
               ((out w lt).takes (takes_message {F = F} setting.layout w n) (λ others is.
-              subst (λ l. takes_message l w n (ask.Group seen others) ≡ true) (sym layout)
+              subst (λ l. takes_message {F = F} l w n (ask.Group seen others) ≡ true) (sym layout)
               (takes-group n w seen asked tasks others.items taken few k.limit is))));
           heard = p.heard;
           hears = λ w lt. subst₂ (λ (ms : List (Ask F)) (xs : List (Answer F)).

@@ -1,5 +1,6 @@
 -- A group of which no worker's tasks are away has all of its replies.
-use Rattle.std.proofs.Common.{◌≡◌, ◌≢◌, ◌⊎◌, ⊎_elim, ℕ, zero, suc, ◌<◌, ◌≤◌, List, [], ◌∷◌, length, Bool}
+use Rattle.std.proofs.Common.{◌≡◌, ◌≢◌, ◌⊎◌, ⊎_elim, ℕ, zero, suc, ◌<◌, ◌≤◌, List, [], ◌∷◌, length}
+use Rattle.std.proofs.Common.{Bool}
 use Rattle.std.proofs.Common.{true, false, cond, nat_eq, refl, sym, ap, ◌∙◌, subst, arith}
 use Rattle.std.specs.Prelude.{filter, not, ◌&&◌}
 use Rattle.std.specs.List.{AllByRecursion}
@@ -10,9 +11,12 @@ use Rattle.kv_model.proofs.PairwiseLemmas.{All-map}
 use Rattle.kv_ring.specs.declared.task.Task.{Task}
 use Rattle.kv_session_party.specs.Promise.{StandsIn}
 use Rattle.kv_parties.specs.Messages.{IsReplied}
-use Rattle.kv_session_party.specs.Routes.{AreAnswered, ArePlaces, IsPlace, IsKnown, HasReply, all_here}
-use Rattle.kv_session_party.specs.Routes.{is_at, is_away, goes_to, part_for, part_of, tasks_here, no_part}
-use Rattle.kv_session_party.specs.Routes.{replies_in}
+use Rattle.kv_session_party.specs.Merging.{AreAnswered, IsKnown}
+use Rattle.kv_session_party.specs.Parts.{HasReply, all_here}
+use Rattle.kv_session_party.specs.Routes.{ArePlaces, IsPlace}
+use Rattle.kv_session_party.specs.Parts.{is_away, part_of, tasks_here, no_part}
+use Rattle.kv_session_party.specs.Routes.{is_at, goes_to, part_for}
+use Rattle.kv_session_party.specs.Parts.{replies_in}
 use Rattle.kv_session_party.specs.declared.part.Part.{Part}
 use Rattle.kv_session_party.specs.declared.part.Part.TheVariants.{Here, Away}
 use Rattle.kv_session_party.specs.declared.routes.Place.{Place}

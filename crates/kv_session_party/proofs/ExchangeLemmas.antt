@@ -1,6 +1,8 @@
 -- Asking all workers and receiving from all, one by one.
-use Rattle.std.proofs.Common.{◌≡◌, ◌≢◌, ◌⊎◌, inl, inr, ⊎_elim, ℕ, zero, suc, ◌+◌, ◌<◌, ◌≤◌, List, [], ◌∷◌, ◌++◌}
-use Rattle.std.proofs.Common.{length, Option, None, Some, Bool, true, false, cond, get_or, set, nat_eq}
+use Rattle.std.proofs.Common.{◌≡◌, ◌≢◌, ◌⊎◌, inl, inr, ⊎_elim, ℕ, zero, suc, ◌+◌, ◌<◌, ◌≤◌, List}
+use Rattle.std.proofs.Common.{[], ◌∷◌, ◌++◌}
+use Rattle.std.proofs.Common.{length, Option, None, Some, Bool, true, false, cond, get_or, set}
+use Rattle.std.proofs.Common.{nat_eq}
 use Rattle.std.proofs.Common.{refl, sym, ap, ◌∙◌, subst, arith}
 use Rattle.std.specs.Prelude.{is_some, IsSome, ◌||◌, option_to_list}
 use Rattle.std.proofs.lemmas.Bool.{false≢true}
@@ -10,10 +12,12 @@ use Rattle.kv_ring.specs.Ends.{SameRings}
 use Rattle.kv_ring.specs.declared.ends.Ends.{Ends}
 use Rattle.kv_ring.specs.declared.message.Answer.{Answer}
 use Rattle.kv_ring.specs.declared.message.Ask.{Ask}
-use Rattle.kv_session_party.specs.Exchanges.{Asks, AsksOne, Receives, ReceivesOne, Comes, message_for}
+use Rattle.kv_session_party.specs.Exchanges.{Asks, AsksOne, Receives, ReceivesOne, Comes}
+use Rattle.kv_session_party.specs.Exchanges.{message_for}
 use Rattle.kv_session_party.specs.Exchanges.{is_owed, part_behind_came}
 use Rattle.kv_session_party.specs.Links.{told_to, heard_from, coming_from, waiting_for}
-use Rattle.kv_session_party.specs.Routes.{RoutesState, part_of, tasks_out, part_out, no_part}
+use Rattle.kv_session_party.specs.Parts.{part_of, tasks_out, part_out, no_part}
+use Rattle.kv_session_party.specs.Routes.{RoutesState}
 use Rattle.kv_session_party.specs.declared.links.Links.{Links}
 use Rattle.kv_session_party.specs.declared.part.Part.{Part}
 use Rattle.kv_session_party.proofs.RouteLemmas.{eq_self, eq_not, same_or_not}

@@ -1,6 +1,8 @@
 -- Lemmas on the messages that wait for a place in a ring.
-use Rattle.std.proofs.Common.{◌≡◌, ◌≢◌, ◌⊎◌, ⊎_elim, ℕ, zero, suc, ◌+◌, ◌<◌, ◌≤◌, List, [], ◌∷◌, ◌++◌}
-use Rattle.std.proofs.Common.{length, set, get_or, drop, Option, None, Some, Bool, true, false, cond}
+use Rattle.std.proofs.Common.{◌≡◌, ◌≢◌, ◌⊎◌, ⊎_elim, ℕ, zero, suc, ◌+◌, ◌<◌, ◌≤◌, List, [], ◌∷◌}
+use Rattle.std.proofs.Common.{◌++◌}
+use Rattle.std.proofs.Common.{length, set, get_or, drop, Option, None, Some, Bool, true, false}
+use Rattle.std.proofs.Common.{cond}
 use Rattle.std.proofs.Common.{nat_eq, refl, sym, ap, ◌∙◌, subst, arith}
 use Rattle.std.specs.Prelude.{is_some, ◌||◌, option_to_list}
 use Rattle.std.proofs.lemmas.List.{append-nil, length-set, get_or-set_same, get_or-set_other}
@@ -9,7 +11,8 @@ use Rattle.kv_ring.specs.Ends.{SameRings, sent_to, received_from, known_from, on
 use Rattle.kv_ring.specs.declared.message.Answer.{Answer}
 use Rattle.kv_ring.specs.declared.message.Ask.{Ask}
 use Rattle.kv_ring.specs.declared.message.Ask.TheVariants as ask
-use Rattle.kv_session_party.specs.Links.{any_went, Pushes, told_to, heard_from, coming_from, waiting_for}
+use Rattle.kv_session_party.specs.Links.{any_went, Pushes, told_to, heard_from, coming_from}
+use Rattle.kv_session_party.specs.Links.{waiting_for}
 use Rattle.kv_session_party.specs.Sending.{Sends, has_gone}
 use Rattle.kv_session_party.specs.declared.links.Links.{Links}
 use Rattle.kv_session_party.proofs.RouteLemmas.{eq_self, eq_not, same_or_not}

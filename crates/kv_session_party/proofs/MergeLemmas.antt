@@ -1,5 +1,6 @@
 -- Merging a group's replies, from the last place to the first.
-use Rattle.std.proofs.Common.{◌≡◌, ◌≢◌, ◌⊎◌, ⊎_elim, ℕ, zero, suc, ◌+◌, ◌<◌, ◌≤◌, List, [], ◌∷◌, ◌++◌}
+use Rattle.std.proofs.Common.{◌≡◌, ◌≢◌, ◌⊎◌, ⊎_elim, ℕ, zero, suc, ◌+◌, ◌<◌, ◌≤◌, List, [], ◌∷◌}
+use Rattle.std.proofs.Common.{◌++◌}
 use Rattle.std.proofs.Common.{length, map, reverse, Option, None, Some, Bool, true, false, cond}
 use Rattle.std.proofs.Common.{get_or, set, nat_eq, refl, sym, ap, ◌∙◌, subst, subst₂, arith}
 use Rattle.std.proofs.Common.{append_assoc, length-append}
@@ -16,10 +17,15 @@ use Rattle.kv_model.proofs.PairwiseLemmas.{All-front}
 use Rattle.kv_model.specs.Pairs.{Pair}
 use Rattle.kv_parties.specs.Messages.{task_pairs}
 use Rattle.kv_ring.specs.declared.task.Task.{Task}
-use Rattle.kv_session_party.specs.Routes.{RoutesState, IsRouted, ArePlaces, HasTasks, part_of}
-use Rattle.kv_session_party.specs.Routes.{tasks_here, is_away, is_at, no_part}
-use Rattle.kv_session_party.specs.Routes.{replies_in, replies_at, IsOwn, HaveOwn, IsMerged}
-use Rattle.kv_session_party.specs.Routes.{IsBare, is_bare, IsKnown, AreAnswered, HasReply, has_reply, EndsReplied, IsReady, RepliesAt}
+use Rattle.kv_session_party.specs.Parts.{HasTasks, part_of}
+use Rattle.kv_session_party.specs.Routes.{RoutesState, IsRouted, ArePlaces}
+use Rattle.kv_session_party.specs.Parts.{tasks_here, is_away, no_part}
+use Rattle.kv_session_party.specs.Routes.{is_at}
+use Rattle.kv_session_party.specs.Merging.{replies_at, IsOwn, HaveOwn, IsMerged}
+use Rattle.kv_session_party.specs.Parts.{replies_in}
+use Rattle.kv_session_party.specs.Merging.{IsKnown, AreAnswered, IsReady, RepliesAt}
+use Rattle.kv_session_party.specs.Parts.{is_bare, HasReply, has_reply, EndsReplied}
+use Rattle.kv_session_party.specs.Routes.{IsBare}
 use Rattle.kv_session.specs.Tasks.{HaveReplies}
 use Rattle.kv_session_party.specs.declared.part.Part.{Part}
 use Rattle.kv_session_party.specs.declared.part.Part.TheVariants.{Here, Away}

@@ -1,6 +1,8 @@
 -- A group whose replies are merged is an exchange more.
-use Rattle.std.proofs.Common.{◌≡◌, ◌⊎◌, inl, inr, ℕ, suc, ◌+◌, ◌<◌, ◌≤◌, ◌^◌, List, [], ◌∷◌, ◌++◌, length}
-use Rattle.std.proofs.Common.{map, Option, None, Some, Bool, true, false, cond, nat_eq, refl, sym, ap}
+use Rattle.std.proofs.Common.{◌≡◌, ◌⊎◌, inl, inr, ℕ, suc, ◌+◌, ◌<◌, ◌≤◌, ◌^◌, List, [], ◌∷◌, ◌++◌}
+use Rattle.std.proofs.Common.{length}
+use Rattle.std.proofs.Common.{map, Option, None, Some, Bool, true, false, cond, nat_eq, refl, sym}
+use Rattle.std.proofs.Common.{ap}
 use Rattle.std.proofs.Common.{◌∙◌, subst, arith}
 use Rattle.std.specs.Prelude.{not, is_some, ◌&&◌, IsSome, MatchOption, filter}
 use Rattle.std.specs.List.{AllByRecursion, cons_option, filter_map}
@@ -34,9 +36,12 @@ use Rattle.kv_parties.specs.Sessions.{IsHandled, HaveSeen, seen_behind, greatest
 use Rattle.kv_parties.specs.Messages.{IsReplied}
 use Rattle.kv_parties.specs.Promises.{SessionPromise}
 use Rattle.kv_session_party.specs.Promise.{Keeps, StandsIn, IsOwed, handled_by}
-use Rattle.kv_session_party.specs.Routes.{RoutesState, IsMerged, ArePlaces, IsPlace, HaveOwn}
-use Rattle.kv_session_party.specs.Routes.{IsOwn, part_of, part_for, goes_to, is_at, replies_at}
-use Rattle.kv_session_party.specs.Routes.{replies_in, tasks_here, is_away}
+use Rattle.kv_session_party.specs.Merging.{IsMerged, HaveOwn}
+use Rattle.kv_session_party.specs.Routes.{RoutesState, ArePlaces, IsPlace}
+use Rattle.kv_session_party.specs.Merging.{IsOwn, replies_at}
+use Rattle.kv_session_party.specs.Parts.{part_of}
+use Rattle.kv_session_party.specs.Routes.{part_for, goes_to, is_at}
+use Rattle.kv_session_party.specs.Parts.{replies_in, tasks_here, is_away}
 use Rattle.kv_session_party.specs.declared.part.Part.{Part}
 use Rattle.kv_session_party.specs.declared.part.Part.TheVariants.{Here, Away}
 use Rattle.kv_session_party.specs.declared.routes.Place.{Place}

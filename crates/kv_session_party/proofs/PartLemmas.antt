@@ -1,5 +1,6 @@
 -- Replies that go into frames, and tasks that have them.
-use Rattle.std.proofs.Common.{◌≡◌, ℕ, suc, ◌+◌, ◌<◌, ◌≤◌, ◌^◌, List, [], ◌∷◌, ◌++◌, length, nat_eq, Option}
+use Rattle.std.proofs.Common.{◌≡◌, ℕ, suc, ◌+◌, ◌<◌, ◌≤◌, ◌^◌, List, [], ◌∷◌, ◌++◌, length, nat_eq}
+use Rattle.std.proofs.Common.{Option}
 use Rattle.std.proofs.Common.{None, Some, Bool, true, false, refl, sym, ap, ◌∙◌, subst, arith}
 use Rattle.std.proofs.Common.{length-append}
 use Rattle.std.specs.Prelude.{◌&&◌, nat_le, nat_lt, IfSome}
@@ -15,8 +16,8 @@ use Rattle.kv_model.specs.Frames.{HasReplyFrame}
 use Rattle.kv_model.specs.Pairs.{stamp_of}
 use Rattle.kv_ring.specs.declared.task.Task.{Task}
 use Rattle.kv_parties.specs.Messages.{IsReplied}
-use Rattle.kv_session_party.specs.Routes.{is_stamp, is_good, has_reply, have_replies, answers_all}
-use Rattle.kv_session_party.specs.Routes.{replies_in}
+use Rattle.kv_session_party.specs.Parts.{is_stamp, is_good, has_reply, have_replies, answers_all}
+use Rattle.kv_session_party.specs.Parts.{replies_in}
 use Rattle.kv_session_party.proofs.MergeLemmas.{replies-more}
 use Rattle.kv_session_party.proofs.TakingLemmas.{and-both, le-true, lt-true}
 

@@ -1,6 +1,7 @@
 -- A session's party: what its messages that wait, its group and its end have to do with one another.
 use Rattle.std.proofs.Common.{◌≡◌, ℕ, zero, suc, ◌<◌, ◌≤◌, ◌^◌, List, [], ◌∷◌, ◌++◌, length, Option}
-use Rattle.std.proofs.Common.{get_or, None, Some, Bool, true, false, refl, sym, ap, ◌∙◌, subst, subst₂, arith}
+use Rattle.std.proofs.Common.{get_or, None, Some, Bool, true, false, refl, sym, ap, ◌∙◌, subst}
+use Rattle.std.proofs.Common.{subst₂, arith}
 use Rattle.std.specs.Prelude.{◌↔◌, ◌||◌, ◌&&◌, not, is_some, option_to_list}
 use Rattle.std.specs.List.{AllByRecursion}
 use Rattle.std.proofs.lemmas.Bool.{true≢false, false≢true}
@@ -25,8 +26,9 @@ use Rattle.kv_session_party.specs.Exchanges.{Asks, Receives, part_behind_came, i
 use Rattle.kv_session_party.specs.Links.{waiting_for, told_to}
 use Rattle.kv_session_party.specs.Party.{WaitsAway, ends_reading}
 use Rattle.kv_session_party.specs.Promise.{Tells, HasCourse, IsServed}
-use Rattle.kv_session_party.specs.Routes.{RoutesState, IsBare, is_bare, is_away, part_of, part_out}
-use Rattle.kv_session_party.specs.Routes.{part_behind, tasks_out, some_tasks, all_here}
+use Rattle.kv_session_party.specs.Parts.{is_bare, is_away, part_of, part_out}
+use Rattle.kv_session_party.specs.Routes.{RoutesState, IsBare}
+use Rattle.kv_session_party.specs.Parts.{part_behind, tasks_out, some_tasks, all_here}
 use Rattle.kv_session_party.specs.declared.links.Links.{Links}
 use Rattle.kv_session_party.specs.declared.part.Part.{Part}
 use Rattle.kv_session_party.specs.declared.part.Part.TheVariants.{Here, Away}

@@ -1,6 +1,8 @@
 -- What a session promises, as its rings and its group go on.
-use Rattle.std.proofs.Common.{◌≡◌, ◌⊎◌, inl, inr, ℕ, zero, suc, ◌+◌, ◌<◌, ◌≤◌, ◌^◌, List, [], ◌∷◌, ◌++◌}
-use Rattle.std.proofs.Common.{length, map, Option, None, Some, Bool, true, false, cond, nat_eq, refl}
+use Rattle.std.proofs.Common.{◌≡◌, ◌⊎◌, inl, inr, ℕ, zero, suc, ◌+◌, ◌<◌, ◌≤◌, ◌^◌, List, [], ◌∷◌}
+use Rattle.std.proofs.Common.{◌++◌}
+use Rattle.std.proofs.Common.{length, map, Option, None, Some, Bool, true, false, cond, nat_eq}
+use Rattle.std.proofs.Common.{refl}
 use Rattle.std.proofs.Common.{sym, ap, ◌∙◌, subst, subst₂, arith, append_assoc, length-append}
 use Rattle.std.specs.Prelude.{◌&&◌, not, is_some, filter, option_to_list}
 use Rattle.std.specs.List.{AllByRecursion, flat_map}
@@ -34,14 +36,17 @@ use Rattle.kv_parties.specs.Sessions.{message_of, asked_of, was_asked}
 use Rattle.kv_parties.specs.Sessions.{seen_behind}
 use Rattle.kv_session_party.specs.Exchanges.{part_behind_came, message_for}
 use Rattle.kv_session_party.specs.Promise.{Keeps, StandsIn, IsOwed, AwaitsLast, IsOnWay}
-use Rattle.kv_session_party.specs.Routes.{RoutesState, ArePlaces, part_of, part_for, part_with, goes_to}
-use Rattle.kv_session_party.specs.Routes.{IsRouted, HasTasks, tasks_out, some_tasks, part_out, part_behind}
-use Rattle.kv_session_party.specs.Routes.{part_after, is_taken, is_away, tasks_here, answers_all}
-use Rattle.kv_session_party.specs.Routes.{have_replies, replies_in}
+use Rattle.kv_session_party.specs.Parts.{part_of, part_with}
+use Rattle.kv_session_party.specs.Routes.{RoutesState, ArePlaces, part_for, goes_to}
+use Rattle.kv_session_party.specs.Parts.{HasTasks, tasks_out, some_tasks, part_out, part_behind}
+use Rattle.kv_session_party.specs.Routes.{IsRouted}
+use Rattle.kv_session_party.specs.Parts.{part_after, is_taken, is_away, tasks_here, answers_all}
+use Rattle.kv_session_party.specs.Parts.{have_replies, replies_in}
 use Rattle.kv_session_party.specs.declared.part.Part.{Part}
 use Rattle.kv_session_party.specs.declared.part.Part.TheVariants.{Here, Away}
 use Rattle.kv_session_party.specs.declared.routes.Place.{Place}
-use Rattle.kv_session_party.proofs.HearingLemmas.{Hears-more, Hears-length, Hears-taken, Hears-passed}
+use Rattle.kv_session_party.proofs.HearingLemmas.{Hears-more, Hears-length, Hears-taken}
+use Rattle.kv_session_party.proofs.HearingLemmas.{Hears-passed}
 use Rattle.kv_session_party.proofs.PartLemmas.{replied-all, replies-length}
 use Rattle.kv_session_party.proofs.TakingLemmas.{takes-group}
 

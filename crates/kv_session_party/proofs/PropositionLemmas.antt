@@ -8,7 +8,8 @@ use Rattle.kv_base.specs.declared.reply.Reply.TheVariants.{BadKey, TooLarge, Ful
 use Rattle.kv_base.specs.declared.reply.Reply.TheVariants.{DiskFault, Unsure, Closed, StampsSpent}
 use Rattle.kv_base.specs.declared.reply.Reply.TheVariants.{Malformed}
 use Rattle.kv_model.specs.Frames.{HasReplyFrame}
-use Rattle.kv_session_party.specs.Routes.{AreAnswered, IsKnown, HasReply, part_of, tasks_here}
+use Rattle.kv_session_party.specs.Merging.{AreAnswered, IsKnown}
+use Rattle.kv_session_party.specs.Parts.{HasReply, part_of, tasks_here}
 use Rattle.kv_session_party.specs.declared.part.Part.{Part}
 use Rattle.kv_session_party.specs.declared.routes.Place.{Place}
 use Rattle.kv_session_party.specs.declared.routes.Place.TheVariants.{Own, Worker}

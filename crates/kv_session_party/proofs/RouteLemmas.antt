@@ -1,9 +1,12 @@
 -- Lemmas on routing a group's tasks.
-use Rattle.std.proofs.Common.{◌≡◌, ◌≢◌, ◌⊎◌, inl, inr, ⊎_elim, ℕ, zero, suc, ◌+◌, ◌<◌, ◌≤◌, List, []}
-use Rattle.std.proofs.Common.{◌∷◌, ◌++◌, length, reverse, Option, None, Some, Bool, true, false, cond}
+use Rattle.std.proofs.Common.{◌≡◌, ◌≢◌, ◌⊎◌, inl, inr, ⊎_elim, ℕ, zero, suc, ◌+◌, ◌<◌, ◌≤◌, List}
+use Rattle.std.proofs.Common.{[]}
+use Rattle.std.proofs.Common.{◌∷◌, ◌++◌, length, reverse, Option, None, Some, Bool, true, false}
+use Rattle.std.proofs.Common.{cond}
 use Rattle.std.proofs.Common.{get_or, set, nat_eq, refl, sym, ap, ◌∙◌, subst, subst₂, arith}
 use Rattle.std.proofs.Common.{append_assoc, length-append}
-use Rattle.std.specs.Prelude.{not, is_some, ◌&&◌, IsSome, IfSome, filter, Result, Ok, OnOk, MatchOption}
+use Rattle.std.specs.Prelude.{not, is_some, ◌&&◌, IsSome, IfSome, filter, Result, Ok, OnOk}
+use Rattle.std.specs.Prelude.{MatchOption}
 use Rattle.std.specs.List.{AllByRecursion}
 use Rattle.std.proofs.lemmas.Bool.{false≢true}
 use Rattle.std.proofs.lemmas.Bool.Decides.{nat_tests}
@@ -16,10 +19,14 @@ use Rattle.kv_base.specs.declared.request.Request.{Request}
 use Rattle.kv_model.specs.Pairs.{key_of}
 use Rattle.kv_parties.specs.Setting.{IsOwned, owns}
 use Rattle.kv_ring.specs.declared.task.Task.{Task}
-use Rattle.kv_session_party.specs.Routes.{IsBare, is_bare}
-use Rattle.kv_session_party.specs.Routes.{IsPut, RoutesState, IsRouted, ArePlaces, IsPlace, IsPlaced, IsKept}
-use Rattle.kv_session_party.specs.Routes.{AreKept, IsRoutable, HasTasks, AddsTask, part_of, part_for}
-use Rattle.kv_session_party.specs.Routes.{goes_to, no_part, unrouted}
+use Rattle.kv_session_party.specs.Parts.{is_bare}
+use Rattle.kv_session_party.specs.Routes.{IsBare}
+use Rattle.kv_session_party.specs.Routes.{IsPut, RoutesState, IsRouted, ArePlaces, IsPlace}
+use Rattle.kv_session_party.specs.Routes.{IsPlaced, IsKept}
+use Rattle.kv_session_party.specs.Parts.{HasTasks, AddsTask, part_of}
+use Rattle.kv_session_party.specs.Routes.{AreKept, IsRoutable, part_for}
+use Rattle.kv_session_party.specs.Parts.{no_part}
+use Rattle.kv_session_party.specs.Routes.{goes_to, unrouted}
 use Rattle.kv_session_party.specs.declared.part.Part.{Part}
 use Rattle.kv_session_party.specs.declared.part.Part.TheVariants.{Here, Away}
 use Rattle.kv_session_party.specs.declared.routes.Place.{Place}

@@ -1,5 +1,6 @@
 -- The tasks of a group as they were routed, and the frames of its replies.
-use Rattle.std.proofs.Common.{◌≡◌, ◌⊎◌, inl, inr, ℕ, ◌<◌, ◌^◌, List, [], ◌∷◌, Option, None, Some, Bool, true, false}
+use Rattle.std.proofs.Common.{◌≡◌, ◌⊎◌, inl, inr, ℕ, ◌<◌, ◌^◌, List, [], ◌∷◌, Option, None, Some}
+use Rattle.std.proofs.Common.{Bool, true, false}
 use Rattle.std.proofs.Common.{cond, nat_eq, refl, sym, ap, ◌∙◌, subst, arith}
 use Rattle.std.specs.Prelude.{IsSome, IfSome, MatchOption}
 use Rattle.std.specs.List.{AllByRecursion}
@@ -11,8 +12,10 @@ use Rattle.kv_model.specs.Frames.{HasReplyFrame}
 use Rattle.kv_model.specs.Layout.{all_classes}
 use Rattle.kv_model.specs.Pairs.{key_of, stamp_of}
 use Rattle.kv_ring.specs.declared.task.Task.{Task}
-use Rattle.kv_session_party.specs.Routes.{IsKept, AreKept, IsRoutable, unrouted, ArePlaces, IsPlace, HaveOwn}
-use Rattle.kv_session_party.specs.Routes.{IsOwn, replies_at, is_at}
+use Rattle.kv_session_party.specs.Merging.{HaveOwn}
+use Rattle.kv_session_party.specs.Routes.{IsKept, AreKept, IsRoutable, unrouted, ArePlaces, IsPlace}
+use Rattle.kv_session_party.specs.Merging.{IsOwn, replies_at}
+use Rattle.kv_session_party.specs.Routes.{is_at}
 use Rattle.kv_session.specs.Tasks.{AreTaken, GoesOn, IsRefused}
 use Rattle.kv_session_party.specs.declared.routes.Place.{Place}
 use Rattle.kv_session_party.specs.declared.routes.Place.TheVariants.{Own, Worker}

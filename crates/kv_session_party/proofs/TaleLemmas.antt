@@ -1,5 +1,6 @@
 -- A session's transcript and promise, as its turn goes on.
-use Rattle.std.proofs.Common.{◌≡◌, ℕ, ◌<◌, ◌≤◌, ◌^◌, List, [], ◌∷◌, ◌++◌, length, Option, None, Some}
+use Rattle.std.proofs.Common.{◌≡◌, ℕ, ◌<◌, ◌≤◌, ◌^◌, List, [], ◌∷◌, ◌++◌, length, Option, None}
+use Rattle.std.proofs.Common.{Some}
 use Rattle.std.proofs.Common.{Bool, true, false, ⊎_elim, refl, sym, ap, ◌∙◌, subst, arith}
 use Rattle.std.specs.Prelude.{IsSome, IfSome, option_to_list}
 use Rattle.std.specs.List.{AllByRecursion, filter_map}
@@ -25,9 +26,12 @@ use Rattle.kv_parties.specs.Messages.{IsReplied}
 use Rattle.kv_parties.specs.Sessions.{greatest}
 use Rattle.kv_session_party.specs.Exchanges.{message_for, part_behind_came}
 use Rattle.kv_session_party.specs.Promise.{Tells, Keeps, HasCourse, IsServed, IsOnWay}
-use Rattle.kv_session_party.specs.Routes.{RoutesState, IsRouted, IsMerged, AreAnswered}
-use Rattle.kv_session_party.specs.Routes.{tasks_out, part_out, part_of, part_for, tasks_here, is_away}
-use Rattle.kv_session_party.specs.Routes.{is_taken, replies_in, replies_at, no_part}
+use Rattle.kv_session_party.specs.Merging.{IsMerged, AreAnswered}
+use Rattle.kv_session_party.specs.Routes.{RoutesState, IsRouted}
+use Rattle.kv_session_party.specs.Parts.{tasks_out, part_out, part_of, tasks_here, is_away}
+use Rattle.kv_session_party.specs.Routes.{part_for}
+use Rattle.kv_session_party.specs.Merging.{replies_at}
+use Rattle.kv_session_party.specs.Parts.{is_taken, replies_in, no_part}
 use Rattle.kv_session_party.specs.declared.part.Part.{Part}
 use Rattle.kv_session_party.proofs.AnsweredLemmas.{answered-all, come-replied, replied-framed}
 use Rattle.kv_session_party.proofs.ExchangeLemmas.{before_or_not}

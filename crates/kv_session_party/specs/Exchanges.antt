@@ -1,5 +1,6 @@
 -- A group's way to the workers and back.
-use Rattle.std.specs.Prelude.{◌≡◌, ◌≢◌, ℕ, slice_set, List, [], ◌∷◌, ◌++◌, length, Option, None, Some, Bool}
+use Rattle.std.specs.Prelude.{◌≡◌, ◌≢◌, ℕ, slice_set, List, [], ◌∷◌, ◌++◌, length, Option, None}
+use Rattle.std.specs.Prelude.{Some, Bool}
 use Rattle.std.specs.Prelude.{true, false, is_some, not, ◌&&◌, IsSome, option_to_list}
 use Rattle.std.specs.List.{AllByRecursion}
 use Rattle.kv_base.specs.Reserved.{Reserved}
@@ -10,8 +11,9 @@ use Rattle.kv_ring.specs.declared.message.Ask.TheVariants as ask
 use Rattle.kv_ring.specs.declared.task.Task.{Task}
 use Rattle.kv_session_party.specs.Links.{told_to, heard_from, coming_from, waiting_for}
 use Rattle.kv_parties.specs.Messages.{IsReplied}
-use Rattle.kv_session_party.specs.Routes.{RoutesState, part_of, tasks_out, part_out, tasks_here}
-use Rattle.kv_session_party.specs.Routes.{is_away, is_taken, part_after}
+use Rattle.kv_session_party.specs.Parts.{part_of, tasks_out, part_out, tasks_here}
+use Rattle.kv_session_party.specs.Routes.{RoutesState}
+use Rattle.kv_session_party.specs.Parts.{is_away, is_taken, part_after}
 use Rattle.kv_session_party.specs.declared.links.Links.{Links}
 use Rattle.kv_session_party.specs.declared.part.Part.{Part}
 

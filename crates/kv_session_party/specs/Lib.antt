@@ -1,4 +1,6 @@
+pub mod Parts
 pub mod Routes
+pub mod Merging
 pub mod Sending
 pub mod Links
 pub mod Exchanges

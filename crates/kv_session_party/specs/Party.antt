@@ -1,6 +1,8 @@
 -- A session's party, and what a turn of it does.
-use Rattle.std.specs.Prelude.{◌≡◌, ℕ, ◌+◌, ◌^◌, ◌<◌, ◌≤◌, List, [], length, Option, None, Some, Bool}
-use Rattle.std.specs.Prelude.{true, false, ◌||◌, ◌&&◌, not, is_some, IsSome, if◌then◌else◌, ◌∷◌, max, unwrap_or}
+use Rattle.std.specs.Prelude.{◌≡◌, ℕ, ◌+◌, ◌^◌, ◌<◌, ◌≤◌, List, [], length, Option, None, Some}
+use Rattle.std.specs.Prelude.{Bool}
+use Rattle.std.specs.Prelude.{true, false, ◌||◌, ◌&&◌, not, is_some, IsSome, if◌then◌else◌, ◌∷◌}
+use Rattle.std.specs.Prelude.{max, unwrap_or}
 use Rattle.kv_base.specs.declared.reply.Reply.{Reply}
 use Rattle.kv_model.specs.Pairs.{stamp_of}
 use Rattle.kv_ring.specs.Turn.{turn_of}
@@ -10,7 +12,8 @@ use Rattle.kv_ring.specs.declared.task.Task.{Task}
 use Rattle.kv_session_party.specs.Exchanges.{is_owed, Comes}
 use Rattle.kv_session_party.specs.Links.{Pushes, any_waits, any_went, waiting_for, coming_from}
 use Rattle.kv_session_party.specs.Links.{heard_from}
-use Rattle.kv_session_party.specs.Routes.{RoutesState, part_of, is_away, all_here}
+use Rattle.kv_session_party.specs.Parts.{part_of, is_away, all_here}
+use Rattle.kv_session_party.specs.Routes.{RoutesState}
 use Rattle.kv_session.specs.Session.{SessionState}
 use Rattle.kv_session.specs.declared.ending.Ending.{Ending}
 use Rattle.kv_session_party.specs.declared.links.Links.{Links}

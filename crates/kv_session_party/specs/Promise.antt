@@ -23,8 +23,9 @@ use Rattle.kv_session.specs.declared.ending.Ending.{Ending}
 use Rattle.kv_parties.specs.Messages.{IsReplied}
 use Rattle.kv_parties.specs.Promises.{SessionPromise}
 use Rattle.kv_parties.specs.Sessions.{message_of, seen_behind}
-use Rattle.kv_session_party.specs.Routes.{RoutesState, ArePlaces, HasTasks, part_for}
-use Rattle.kv_session_party.specs.Routes.{part_of, replies_in}
+use Rattle.kv_session_party.specs.Parts.{HasTasks}
+use Rattle.kv_session_party.specs.Routes.{RoutesState, ArePlaces, part_for}
+use Rattle.kv_session_party.specs.Parts.{part_of, replies_in}
 use Rattle.kv_session_party.specs.declared.part.Part.{Part}
 use Rattle.kv_session_party.specs.declared.part.Part.TheVariants.{Here, Away}
 

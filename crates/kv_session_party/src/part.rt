@@ -3,10 +3,10 @@ ghost use Rattle.std.specs.List.{AllByRecursion};
 ghost use Rattle.kv_model.specs.Frames.{HasReplyFrame};
 ghost use Rattle.kv_model.specs.Pairs.{stamp_of};
 ghost use Rattle.kv_parties.specs.Messages.{IsReplied};
-ghost use Rattle.kv_session_party.specs.Routes.{AddsTask, tasks_out, part_out, part_after, is_taken};
-ghost use Rattle.kv_session_party.specs.Routes.{is_stamp, is_good, has_reply, have_replies};
-ghost use Rattle.kv_session_party.specs.Routes.{answers_all, is_away, part_with, takes_tasks};
-ghost use Rattle.kv_session_party.specs.Routes.{tasks_here, EndsReplied, TakesReply};
+ghost use Rattle.kv_session_party.specs.Parts.{AddsTask, tasks_out, part_out, part_after, is_taken};
+ghost use Rattle.kv_session_party.specs.Parts.{is_stamp, is_good, has_reply, have_replies};
+ghost use Rattle.kv_session_party.specs.Parts.{answers_all, is_away, part_with, takes_tasks};
+ghost use Rattle.kv_session_party.specs.Parts.{tasks_here, EndsReplied, TakesReply};
 
 use crate::reply::reply_to;
 use kv_base::{Reply, Request};

@@ -83,7 +83,7 @@ impl<So: Source + Drop, Si: Sink + Drop, F: Drop> SessionParty<So, Si, F> {
     ghost use Rattle.kv_session_party.specs.Exchanges.{Receives};
     ghost use Rattle.kv_session_party.specs.Links.{waiting_for, heard_from, coming_from};
     ghost use Rattle.kv_session_party.specs.Party.{is_over, TurnsWaiting, TurnsReading, WaitsFor};
-    ghost use Rattle.kv_session_party.specs.Routes.{all_here};
+    ghost use Rattle.kv_session_party.specs.Parts.{all_here};
     ghost use Rattle.kv_stamps.specs.Steps.{Raises, Looks};
 
     /// A session that took no byte so far, with fresh ends. Takes the buffers for its frames and

@@ -1,4 +1,5 @@
-ghost use Rattle.std.specs.Prelude.{◌≡◌, ℕ, ◌≤◌, ◌<◌, ◌+◌, List, [], ◌∷◌, ◌++◌, length, IsSome, IfOk};
+ghost use Rattle.std.specs.Prelude.{◌≡◌, ℕ, ◌≤◌, ◌<◌, ◌+◌, List, [], ◌∷◌, ◌++◌, length, IsSome};
+ghost use Rattle.std.specs.Prelude.{IfOk};
 ghost use Rattle.std.specs.Prelude.{slice_set, true, reverse};
 ghost use Rattle.std.specs.List.{AllByRecursion};
 ghost use Rattle.kv_base.specs.Partition.{owner_of};
@@ -7,11 +8,14 @@ ghost use Rattle.kv_model.specs.Pairs.{key_of};
 ghost use Rattle.kv_parties.specs.Setting.{IsOwned};
 ghost use Rattle.kv_ring.specs.declared.task.Task.{Task as TaskOf};
 ghost use Rattle.kv_session.specs.Tasks.{HaveReplies};
-ghost use Rattle.kv_session_party.specs.Routes.{IsRouted, IsBare, IsRoutable, IsKept, AreKept, IsPlaced, IsPut};
-ghost use Rattle.kv_session_party.specs.Routes.{part_of, tasks_out, part_out, is_away, part_after};
+ghost use Rattle.kv_session_party.specs.Routes.{IsRouted, IsBare, IsRoutable, IsKept, AreKept};
+ghost use Rattle.kv_session_party.specs.Routes.{IsPlaced, IsPut};
+ghost use Rattle.kv_session_party.specs.Parts.{part_of, tasks_out, part_out, is_away, part_after};
 ghost use Rattle.kv_parties.specs.Messages.{IsReplied};
-ghost use Rattle.kv_session_party.specs.Routes.{is_taken, tasks_here, AreAnswered, IsMerged};
-ghost use Rattle.kv_session_party.specs.Routes.{replies_in, all_here, IsReady, RepliesAt};
+ghost use Rattle.kv_session_party.specs.Merging.{AreAnswered, IsMerged};
+ghost use Rattle.kv_session_party.specs.Parts.{is_taken, tasks_here};
+ghost use Rattle.kv_session_party.specs.Merging.{IsReady, RepliesAt};
+ghost use Rattle.kv_session_party.specs.Parts.{replies_in, all_here};
 
 use crate::part::{self, Part};
 use kv_base::{NoMemory, Reply, Request, ReservedList, owner};

@@ -1,7 +1,7 @@
 use Rattle.std.proofs.Common.{◌≡◌, length}
 use Rattle.std.specs.List.{AllByRecursion}
 use Rattle.kv_parties.specs.Messages.{IsReplied}
-use Rattle.kv_session_party.specs.Routes.{have_replies}
+use Rattle.kv_session_party.specs.Parts.{have_replies}
 use Rattle.kv_session_party.proofs.part.have_replies.Given as goal
 
 abbrev pub invariant-loop-task : goal.invariant-loop-task

@@ -1,4 +1,5 @@
-use Rattle.std.proofs.Common.{◌≡◌, ◌≤◌, ℕ, false, length, refl, sym, ap, ◌∙◌, subst, subst₂, arith, []}
+use Rattle.std.proofs.Common.{◌≡◌, ◌≤◌, ℕ, false, length, refl, sym, ap, ◌∙◌, subst, subst₂, arith}
+use Rattle.std.proofs.Common.{[]}
 use Rattle.std.proofs.lemmas.Grind.{merely}
 use Rattle.kv_ring.specs.Ends.{peers, sent_to, received_from}
 use Rattle.kv_session.specs.Passage.{Streams, HasRead}

@@ -1,5 +1,5 @@
 use Rattle.std.proofs.Common.{◌≡◌, drop}
-use Rattle.kv_session_party.specs.Routes.{all_here}
+use Rattle.kv_session_party.specs.Parts.{all_here}
 use Rattle.kv_session_party.proofs.routes.Routes.all_here.Given as goal
 
 abbrev pub invariant-loop-part : goal.invariant-loop-part

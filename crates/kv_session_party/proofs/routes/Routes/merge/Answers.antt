@@ -4,8 +4,10 @@ use Rattle.std.proofs.lemmas.Bool.{false≢true}
 use Rattle.std.proofs.lemmas.List.{append-nil}
 use Rattle.kv_ring.specs.declared.task.Task.{Task}
 use Rattle.kv_session.specs.Tasks.{HaveReplies}
-use Rattle.kv_session_party.specs.Routes.{RoutesState, AreAnswered, IsMerged, replies_in, tasks_here}
-use Rattle.kv_session_party.specs.Routes.{part_of}
+use Rattle.kv_session_party.specs.Merging.{AreAnswered, IsMerged}
+use Rattle.kv_session_party.specs.Parts.{replies_in, tasks_here}
+use Rattle.kv_session_party.specs.Routes.{RoutesState}
+use Rattle.kv_session_party.specs.Parts.{part_of}
 use Rattle.kv_session_party.specs.declared.routes.Place.{Place}
 use Rattle.kv_session_party.proofs.MergeLemmas.{Merges, Merges-new, Merges-ready, Merges-more}
 use Rattle.kv_session_party.proofs.MergeLemmas.{Merges-all, Merges-many, Merges-bare}

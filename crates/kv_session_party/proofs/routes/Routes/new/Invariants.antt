@@ -1,5 +1,5 @@
 use Rattle.std.proofs.Common.{◌≡◌, ◌≤◌, ℕ, true, vec_len, vec_capacity}
-use Rattle.kv_session_party.specs.Routes.{is_bare, part_of}
+use Rattle.kv_session_party.specs.Parts.{is_bare, part_of}
 use Rattle.kv_session_party.proofs.routes.Routes.new.Given as goal
 
 abbrev pub invariant-loop-made : goal.invariant-loop-made

@@ -7,10 +7,9 @@ use Rattle.kv_base.specs.declared.reply.Reply.{Reply}
 use Rattle.kv_session_party.specs.declared.part.Part.{Part}
 use Rattle.kv_session_party.specs.declared.routes.Place.{Place}
 use Rattle.kv_session_party.specs.declared.routes.Place.TheVariants.{Own, Worker}
-use Rattle.kv_session_party.specs.Parts.{EndsReplied, HasReply, TakesReply}
-use Rattle.kv_session_party.specs.Parts.{is_away}
-use Rattle.kv_session_party.specs.Parts.{part_of}
+use Rattle.kv_session_party.specs.Parts.{EndsReplied, HasReply, TakesReply, is_away, part_of}
 use Rattle.kv_session_party.specs.Parts.{tasks_here}
+use Rattle.kv_session_party.specs.Routes.{is_at}
 
 -- the replies at the worker's places, in order
 abbrev pub replies_at : ℕ → List Place → List Reply → List Reply

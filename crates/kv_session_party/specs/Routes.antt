@@ -11,9 +11,7 @@ use Rattle.kv_ring.specs.declared.task.Task.{Task}
 use Rattle.kv_session_party.specs.declared.part.Part.{Part}
 use Rattle.kv_session_party.specs.declared.routes.Place.{Place}
 use Rattle.kv_session_party.specs.declared.routes.Place.TheVariants.{Own, Worker}
-use Rattle.kv_session_party.specs.Parts.{AddsTask, HasTasks}
-use Rattle.kv_session_party.specs.Parts.{is_bare}
-use Rattle.kv_session_party.specs.Parts.{part_of}
+use Rattle.kv_session_party.specs.Parts.{AddsTask, HasTasks, is_bare, part_of}
 
 -- who answers each request of the group, and each worker's tasks
 pub record RoutesState : Type 0 where

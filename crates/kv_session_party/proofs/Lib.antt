@@ -1,0 +1,17 @@
+pub mod SendingLemmas
+pub mod PropositionLemmas
+pub mod HearingLemmas
+pub mod TakingLemmas
+pub mod PartLemmas
+pub mod RouteLemmas
+pub mod MergeLemmas
+pub mod ExchangeLemmas
+pub mod LinkLemmas
+pub mod PromiseLemmas
+pub mod MergedLemmas
+pub mod TaleLemmas
+pub mod SeenLemmas
+pub mod KeyedLemmas
+pub mod TakenLemmas
+pub mod AnsweredLemmas
+pub mod PartyLemmas

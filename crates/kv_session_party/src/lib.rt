@@ -1,0 +1,15 @@
+//! A session among the workers: it routes each group's requests by owner, and merges the replies.
+#![tactic(auto)]
+
+mod exchange;
+mod greatest;
+mod links;
+mod part;
+mod party;
+mod reply;
+mod routes;
+mod send;
+#[cfg(test)]
+mod tests;
+
+pub use party::{PartyParts, SessionParty};

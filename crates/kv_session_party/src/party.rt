@@ -1,0 +1,397 @@
+ghost use Rattle.std.specs.Prelude.{◌≡◌, ◌≤◌, true, false, length, is_some, not, ◌||◌};
+ghost use Rattle.kv_parties.specs.Setting.{Setting};
+ghost use Rattle.kv_ring.specs.Ends.{peers};
+ghost use Rattle.kv_session_party.specs.Links.{told_to, heard_from};
+ghost use Rattle.kv_session_party.specs.Party.{WaitsAway, ends_reading};
+ghost use Rattle.kv_session_party.specs.Routes.{IsBare};
+ghost use Rattle.kv_session.specs.Passage.{Streams};
+ghost use Rattle.kv_session_party.specs.Promise.{IsServed, Tells};
+
+use crate::exchange::{ask, receive};
+use crate::greatest::greatest;
+use crate::links::Links;
+use crate::routes::Routes;
+use crate::send::either;
+use kv_base::{NoMemory, ReservedList, Sink, Source};
+use kv_model::groups_hold_requests;
+use kv_ring::{SessionEnds, Tasks, Turn, WorkerSide};
+use kv_session::{Ending, Gathered, Session};
+use kv_stamps::{StampSeat, Stamps};
+use std::alloc::Global;
+use std::snapshot::Snapshot;
+
+/// The most requests of a group.
+const MOST_REQUESTS: usize = 64;
+
+/// The parts of a session's party.
+#[derive(Drop)]
+pub struct PartyParts<So, Si, F> {
+    /// Where its bytes came from.
+    pub source: So,
+    /// Where its replies went.
+    pub sink: Si,
+    /// How it ended. `None` exactly where it hasn't ended.
+    pub ending: Option<Ending>,
+    /// Its ends of the rings, to and from each worker.
+    pub ends: SessionEnds<F>,
+    /// Its seat of the counter.
+    pub seat: StampSeat,
+}
+
+/// A session among the workers. Its transcript and its promise stand in its type: the bytes that it
+/// took and gave, and what it sent to the workers and received from them, are those of the same
+/// groups.
+#[derive(Drop)]
+pub struct SessionParty<So: Source, Si: Sink, F> {
+    session: Session<So, Si>,
+    links: Links<F>,
+    routes: Routes,
+    tasks: Tasks,
+    seen: u64,
+    waiting: bool,
+    read_all: bool,
+    over: bool,
+    seat: StampSeat,
+    first: Snapshot<Session<So, Si>>,
+    ghost size: { length routes.parts ≡ peers links.ends },
+    ghost few: { length routes.places ≤ 64 },
+    ghost idle: { length tasks.items ≡ 0 },
+    ghost room: { 64 ≤ tasks.spare },
+    ghost ended: { over ≡ is_some session.ending },
+    ghost closed: { read_all ≡ is_some session.closing },
+    ghost reads: { over ≡ false → waiting ≡ false → read_all ≡ false },
+    ghost rests: { over ≡ true → waiting ≡ false },
+    ghost away: { over ≡ false → WaitsAway links routes },
+    ghost bare: { waiting ≡ false → IsBare routes },
+    ghost promise: { let streams : Streams So Si = record {
+      stream = So.stream;
+      source_faults = So.faults;
+      held = Si.held;
+      sink_faults = Si.faults;
+    } in (setting : Setting) → IsServed setting (peers links.ends)
+        → ∥ Tells streams setting first.value.source first.value.sink session (told_to links)
+        (heard_from links) seen routes waiting ∥₁ },
+}
+
+impl<So: Source + Drop, Si: Sink + Drop, F: Drop> SessionParty<So, Si, F> {
+    ghost use Rattle.std.specs.Prelude.{◌≡◌, ◌↔◌, ℕ, ◌+◌, ◌<◌, ◌≤◌, ◌^◌, min, length, IfOk, IfErr};
+    ghost use Rattle.std.specs.Prelude.{[], None, true, false, not, ◌≢◌};
+    ghost use Rattle.kv_ring.specs.Comparing.{Compares};
+    ghost use Rattle.kv_ring.specs.Ends.{peers, IsFresh, AreBetween, SameRings};
+    ghost use Rattle.kv_ring.specs.declared.turn.Turn.TheVariants as turn;
+    ghost use Rattle.kv_session.specs.Session.{KeepsReading};
+    ghost use Rattle.kv_session_party.specs.Exchanges.{Receives};
+    ghost use Rattle.kv_session_party.specs.Links.{waiting_for, heard_from, coming_from};
+    ghost use Rattle.kv_session_party.specs.Party.{is_over, TurnsWaiting, TurnsReading, WaitsFor};
+    ghost use Rattle.kv_session_party.specs.Parts.{all_here};
+    ghost use Rattle.kv_stamps.specs.Steps.{Raises, Looks};
+
+    /// A session that took no byte so far, with fresh ends. Takes the buffers for its frames and
+    /// replies; want of memory hands source and sink back.
+    pub fn new(
+        alloc: Global,
+        source: So,
+        sink: Si,
+        ends: SessionEnds<F>,
+        seat: StampSeat,
+    ) -> Result<SessionParty<So, Si, F>, (So, Si, NoMemory)>
+        requires { IsFresh ends }
+        ensures parts { IfOk result (λ party. (party.first.value.source ≡ source)
+            × (party.first.value.sink ≡ sink) × (party.links.ends ≡ ends)
+            × (party.seat ≡ seat) × (party.session ≡ party.first.value)
+            × (party.waiting ≡ false)) }
+        ensures err { IfErr result (λ refused. (refused.0 ≡ source) × (refused.1 ≡ sink)) }
+    {
+        let Ok(tasks) = ReservedList::with_room(alloc, MOST_REQUESTS) else {
+            return Err((source, sink, NoMemory));
+        };
+        let Ok(routes) = Routes::new(alloc, ends.peers()) else {
+            return Err((source, sink, NoMemory));
+        };
+        let Ok(links) = Links::new(alloc, ends) else {
+            return Err((source, sink, NoMemory));
+        };
+        let session = match Session::new(alloc, source, sink) {
+            Ok(session) => session,
+            Err(refused) => return Err(refused),
+        };
+        let first = Snapshot::of(&session);
+        Ok(SessionParty {
+            session,
+            links,
+            routes,
+            tasks,
+            seen: 0,
+            waiting: false,
+            read_all: false,
+            over: false,
+            seat,
+            first,
+        })
+    }
+
+    /// Sends the messages that a ring had no place for. Then it reads a group and asks it of the
+    /// workers, or takes the answers that are owed; where none is owed any more it writes the
+    /// replies. A session that has ended says so to the workers. Takes memory for the requests
+    /// alone.
+    pub fn turn(&mut self, stamps: &Stamps) -> Turn
+        requires { self.old.seat.counter ≡ stamps.now }
+        ensures ended { (result ≡ turn.Ended)
+            ↔ (is_over self.new.session.ending self.new.links ≡ true) }
+
+        // Where a group is on its way it takes the answers that are owed; else it reads one.
+        ensures waits { self.old.waiting ≡ true → TurnsWaiting self.old.links self.new.links
+            self.old.routes self.new.waiting (is_over self.new.session.ending self.new.links)
+            result }
+        ensures reads { self.old.waiting ≡ false → self.old.session.ending ≡ None
+            → TurnsReading self.old.session self.new.session × (result ≢ turn.Idle) }
+        ensures rests { self.old.session.ending ≢ None → self.new.session ≡ self.old.session }
+        ensures rings { SameRings self.old.links.ends self.new.links.ends }
+        ensures seat { self.new.seat ≡ self.old.seat }
+        ensures first { self.new.first.value ≡ self.old.first.value }
+    {
+        let pushed = self.links.push();
+        let moved = self.go_on();
+        Turn::of(self.is_over(), either(pushed, moved))
+    }
+
+    /// Whether the session has ended and no message waits.
+    fn is_over(&self) -> bool
+        ensures { result ≡ is_over self.now.session.ending self.now.links }
+    {
+        self.over && !self.links.waits()
+    }
+
+    /// Reads a group, or takes the answers that are owed. The answer is whether it did more than
+    /// look for answers.
+    fn go_on(&mut self) -> bool
+        ensures waits { self.old.waiting ≡ true → WaitsFor self.old.links self.new.links
+            self.old.routes self.new.waiting result }
+        ensures reads { self.old.waiting ≡ false → self.old.over ≡ false
+            → TurnsReading self.old.session self.new.session × (result ≡ true) }
+        ensures rests { self.old.over ≡ true → self.new.session ≡ self.old.session }
+        ensures rings { SameRings self.old.links.ends self.new.links.ends }
+        ensures seat { self.new.seat ≡ self.old.seat }
+        ensures first { self.new.first.value ≡ self.old.first.value }
+    {
+        if self.over {
+            return true;
+        }
+        if self.waiting {
+            return self.wait();
+        }
+        self.read();
+        true
+    }
+
+    /// Reads a group, and asks it of the workers; where none gets a request it writes the replies.
+    fn read(&mut self)
+        requires goes_on { self.old.over ≡ false }
+        requires reads { self.old.waiting ≡ false }
+        ensures reads { TurnsReading self.old.session self.new.session }
+        ensures rings { SameRings self.old.links.ends self.new.links.ends }
+        ensures seat { self.new.seat ≡ self.old.seat }
+        ensures first { self.new.first.value ≡ self.old.first.value }
+    {
+        self.ask_group();
+        self.reply_if_here();
+    }
+
+    /// Reads a group, and asks it of the workers.
+    fn ask_group(&mut self)
+        requires goes_on { self.old.over ≡ false }
+        requires reads { self.old.waiting ≡ false }
+        ensures reads { TurnsReading self.old.session self.new.session }
+        ensures goes_on { self.new.over ≡ false }
+        ensures waits { self.new.waiting ≡ true }
+        ensures rings { SameRings self.old.links.ends self.new.links.ends }
+        ensures seat { self.new.seat ≡ self.old.seat }
+        ensures first { self.new.first.value ≡ self.old.first.value }
+    {
+        let gathered = self.session.gather(&mut self.tasks);
+        self.read_all = ends_reading(gathered);
+        self.routes.split(&mut self.tasks);
+        ask(&mut self.links, &mut self.routes, self.seen);
+        self.waiting = true;
+    }
+
+    /// Takes the answers that are owed, and where none is owed any more writes the replies. The
+    /// answer is whether any came.
+    fn wait(&mut self) -> bool
+        requires goes_on { self.old.over ≡ false }
+        requires waits { self.old.waiting ≡ true }
+        ensures waits { WaitsFor self.old.links self.new.links self.old.routes self.new.waiting
+            result }
+        ensures rings { SameRings self.old.links.ends self.new.links.ends }
+        ensures seat { self.new.seat ≡ self.old.seat }
+        ensures first { self.new.first.value ≡ self.old.first.value }
+    {
+        let came = self.take_answers();
+        self.reply_if_here();
+        came
+    }
+
+    /// Takes the answers that are owed. The answer is whether any came.
+    fn take_answers(&mut self) -> bool
+        requires goes_on { self.old.over ≡ false }
+        requires waits { self.old.waiting ≡ true }
+        ensures receives { Receives self.old.links self.new.links self.old.routes self.new.routes
+            result }
+        ensures goes_on { self.new.over ≡ false }
+        ensures waits { self.new.waiting ≡ true }
+        ensures seat { self.new.seat ≡ self.old.seat }
+        ensures first { self.new.first.value ≡ self.old.first.value }
+    {
+        receive(&mut self.links, &mut self.routes)
+    }
+
+    /// Writes the replies of the group, unless a worker's tasks are away.
+    fn reply_if_here(&mut self)
+        requires goes_on { self.old.over ≡ false }
+        requires waits { self.old.waiting ≡ true }
+        ensures waits { self.new.waiting ≡ not (all_here self.old.routes.parts) }
+        ensures reading { KeepsReading self.old.session self.new.session }
+        ensures heard { (worker : ℕ)
+            → (heard_from self.new.links worker ≡ heard_from self.old.links worker)
+            × (coming_from self.new.links worker ≡ coming_from self.old.links worker) }
+        ensures rings { SameRings self.old.links.ends self.new.links.ends }
+        ensures seat { self.new.seat ≡ self.old.seat }
+        ensures first { self.new.first.value ≡ self.old.first.value }
+    {
+        if self.routes.all_here() {
+            self.reply();
+            self.say_bye();
+        }
+    }
+
+    /// Writes the replies of the group, of which no worker's tasks are away.
+    fn reply(&mut self)
+        requires goes_on { self.old.over ≡ false }
+        requires waits { self.old.waiting ≡ true }
+        requires here { all_here self.old.routes.parts ≡ true }
+        ensures reading { KeepsReading self.old.session self.new.session }
+        ensures waits { self.new.waiting ≡ false }
+        ensures links { self.new.links ≡ self.old.links }
+        ensures here { all_here self.new.routes.parts ≡ true }
+        ensures seat { self.new.seat ≡ self.old.seat }
+        ensures first { self.new.first.value ≡ self.old.first.value }
+    {
+        // Each request of a group has a reply, and so is about a key.
+        groups_hold_requests();
+        self.routes.merge(&mut self.tasks);
+        self.seen = greatest(self.tasks.as_slice(), self.seen);
+        self.waiting = false;
+        let whole = self.session.deliver(&mut self.tasks);
+        self.over = ends(self.read_all, whole);
+    }
+
+    /// Tells the workers where the session has ended.
+    fn say_bye(&mut self)
+        requires free { (worker : ℕ) → waiting_for self.old.links worker ≡ None }
+        ensures session { self.new.session ≡ self.old.session }
+        ensures waits { self.new.waiting ≡ self.old.waiting }
+        ensures heard { (worker : ℕ)
+            → (heard_from self.new.links worker ≡ heard_from self.old.links worker)
+            × (coming_from self.new.links worker ≡ coming_from self.old.links worker) }
+        ensures rings { SameRings self.old.links.ends self.new.links.ends }
+        ensures seat { self.new.seat ≡ self.old.seat }
+        ensures first { self.new.first.value ≡ self.old.first.value }
+    {
+        if self.over {
+            self.links.say_bye();
+        }
+    }
+
+    /// Raises the counter to `to`, at most 2^62, with this party's seat. Takes no memory.
+    pub fn raise(&mut self, stamps: &Stamps, to: u64)
+        requires counter { self.old.seat.counter ≡ stamps.now }
+        requires to { to ≤ 2 ^ 62 }
+        ensures counter { self.new.seat.counter ≡ self.old.seat.counter }
+        ensures view { (next : ℕ) × Raises to self.old.seat.view next self.new.seat.view }
+        ensures kept { (self.new.session ≡ self.old.session) × (self.new.links ≡ self.old.links)
+            × (self.new.waiting ≡ self.old.waiting)
+            × (self.new.first.value ≡ self.old.first.value) }
+    {
+        stamps.raise(&mut self.seat, to);
+    }
+
+    /// The counter's next number, or 2^62 where it is above, seen with this party's seat. Takes no
+    /// memory.
+    pub fn look(&mut self, stamps: &Stamps) -> u64
+        requires { self.old.seat.counter ≡ stamps.now }
+        ensures counter { self.new.seat.counter ≡ self.old.seat.counter }
+        ensures value { (next : ℕ) × (result ≡ min next (2 ^ 62))
+            × Looks self.old.seat.view next self.new.seat.view }
+        ensures kept { (self.new.session ≡ self.old.session) × (self.new.links ≡ self.old.links)
+            × (self.new.waiting ≡ self.old.waiting)
+            × (self.new.first.value ≡ self.old.first.value) }
+    {
+        stamps.look(&mut self.seat)
+    }
+
+    /// How many messages are left in the two rings between this session and a worker, with the
+    /// worker's side. Nothing is sent or received. Takes no memory.
+    pub fn left_between<W: WorkerSide<F>>(
+        &mut self,
+        session: u32,
+        worker_side: &mut W,
+        worker: u32,
+    ) -> u32
+        requires worker { worker < peers self.old.links.ends }
+        requires session { session < peers (W.ends worker_side.old) }
+        requires rings { AreBetween self.old.links.ends session (W.ends worker_side.old) worker }
+        ensures compared { Compares self.old.links.ends self.new.links.ends session
+            (W.ends worker_side.old) (W.ends worker_side.new) worker result }
+        ensures stays { W.Stays worker_side.old worker_side.new }
+        ensures kept { (self.new.session ≡ self.old.session) × (self.new.seat ≡ self.old.seat)
+            × (self.new.waiting ≡ self.old.waiting)
+            × (self.new.first.value ≡ self.old.first.value) }
+    {
+        self.links.left_between(session, worker_side, worker)
+    }
+
+    /// The parts. A message that waits to be sent is dropped.
+    pub fn into_parts(self) -> PartyParts<So, Si, F>
+        ensures { (result.source ≡ self.session.source) × (result.sink ≡ self.session.sink)
+            × (result.ending ≡ self.session.ending) × (result.ends ≡ self.links.ends)
+            × (result.seat ≡ self.seat) }
+    {
+        let SessionParty {
+            session,
+            links,
+            routes: _,
+            tasks: _,
+            seen: _,
+            waiting: _,
+            read_all: _,
+            over: _,
+            seat,
+            first: _,
+        } = self;
+        let parts = session.into_parts();
+        PartyParts {
+            source: parts.source,
+            sink: parts.sink,
+            ending: parts.ending,
+            ends: links.into_ends(),
+            seat,
+        }
+    }
+}
+
+/// Whether a group ended with the reading.
+fn ends_reading(gathered: Gathered) -> bool
+    ensures { result ≡ ends_reading gathered }
+{
+    match gathered {
+        Gathered::More => false,
+        Gathered::Ending { cause: _ } => true,
+    }
+}
+
+/// Whether a session ends behind replies: reading has ended, or they didn't all go out.
+fn ends(read_all: bool, whole: bool) -> bool
+    ensures { result ≡ (read_all || not whole) }
+{
+    read_all || !whole
+}

@@ -9,7 +9,5 @@ mod party;
 mod reply;
 mod routes;
 mod send;
-#[cfg(test)]
-mod tests;
 
 pub use party::{PartyParts, SessionParty};

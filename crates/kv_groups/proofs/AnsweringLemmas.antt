@@ -1,21 +1,19 @@
 -- How the answer to one session goes.
-use Rattle.std.proofs.Common.{◌≡◌, ◌⊎◌, inl, inr, ℕ, ◌≤◌, List, [], ◌∷◌, ◌++◌, map, length, Option, None, Some}
-use Rattle.std.proofs.Common.{refl, sym, ap, subst, ◌∙◌, arith, append-nil, length-append}
+use Rattle.std.proofs.Common.{◌≡◌, ◌⊎◌, inl, inr, ℕ, List, [], ◌∷◌, ◌++◌, length, Option, None, Some}
+use Rattle.std.proofs.Common.{refl, sym, ap, ◌∙◌, append-nil, is_some}
 use Rattle.std.specs.Prelude.{option_to_list}
 use Rattle.std.proofs.lemmas.List.{nil_from_length}
 use Rattle.kv_base.specs.Reserved.{Reserved}
-use Rattle.kv_ring.specs.Ends.{sent_to, SameRings}
+use Rattle.kv_ring.specs.Ends.{sent_to}
 use Rattle.kv_ring.specs.declared.ends.Ends.{Ends}
 use Rattle.kv_ring.specs.declared.message.Answer.{Answer}
 use Rattle.kv_ring.specs.declared.message.Answer.TheVariants.{Group}
 use Rattle.kv_ring.specs.declared.message.Ask.{Ask}
 use Rattle.kv_ring.specs.declared.task.Task.{Task}
 use Rattle.kv_groups.specs.declared.connection.Connection.{Connection}
-use Rattle.kv_groups.specs.Batched.{of_session, tasks_in}
+use Rattle.kv_groups.specs.Batched.{of_session}
 use Rattle.kv_groups.specs.Delivering.{Delivers, answer_of}
-use Rattle.kv_groups.specs.Traffic.{Traffic, traffic_with, Sends}
-use Rattle.kv_groups.proofs.BatchLemmas.{untag}
-use Rattle.kv_groups.proofs.GatherLemmas.{of_session-length}
+use Rattle.kv_groups.specs.Traffic.{traffic_with, Sends}
 
 module _ {F : Type 0} where
   -- a group in hand: its tasks come back, and the answer is sent or waits
@@ -40,6 +38,7 @@ module _ {F : Type 0} where
             (sym waiting)
             ∙ ap (λ o. (sent_to ends session ++ option_to_list old.waiting)
             ++ answer_of {F = F} o tasks) (sym group);
+        full = λ free some. sends.full (ap is_some (sym left_is) ∙ some);
         gone = gone_is;
         group = none;
       }
@@ -56,6 +55,7 @@ module _ {F : Type 0} where
         ∙ sym (append-nil (sent_to ends session ++ option_to_list old.waiting))
         ∙ ap (λ o. (sent_to ends session ++ option_to_list old.waiting)
         ++ answer_of {F = F} o tasks) (sym group);
+    full = λ free some. free (ap is_some (sym waiting) ∙ some);
     gone = gone_is;
     group = none;
   }

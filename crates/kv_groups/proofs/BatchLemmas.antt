@@ -1,5 +1,5 @@
 -- Lemmas on the tasks of several sessions in one batch.
-use Rattle.std.proofs.Common.{◌≡◌, ℕ, zero, suc, ◌+◌, List, [], ◌∷◌, ◌++◌, map, length, refl, sym, ap, ◌∙◌}
+use Rattle.std.proofs.Common.{◌≡◌, ℕ, suc, ◌+◌, List, [], ◌∷◌, ◌++◌, map, length, refl, sym, ap, ◌∙◌}
 use Rattle.std.proofs.Common.{arith, append_assoc, append-nil}
 use Rattle.kv_ring.specs.declared.task.Task.{Task}
 use Rattle.kv_groups.specs.Batched.{of_session, in_hand}

@@ -1,9 +1,8 @@
 -- How the answers of a turn went back to the last sessions, with one session more.
-use Rattle.std.proofs.Common.{◌≡◌, ◌≢◌, ◌⊎◌, inl, inr, ⊎_elim, ℕ, zero, suc, ◌+◌, ◌-◌, ◌<◌, ◌≤◌, List, []}
-use Rattle.std.proofs.Common.{◌∷◌, ◌++◌, map, length, get_or, set, take, Option, None, Some, refl, sym}
-use Rattle.std.proofs.Common.{ap, ◌∙◌, subst, arith, length-append, length-set}
+use Rattle.std.proofs.Common.{◌≡◌, ◌≢◌, ◌⊎◌, ⊎_elim, ℕ, ◌+◌, ◌<◌, ◌≤◌, List, []}
+use Rattle.std.proofs.Common.{◌++◌, length, get_or, set, take, None, refl, sym}
+use Rattle.std.proofs.Common.{ap, ◌∙◌, subst, arith, length-append}
 use Rattle.std.proofs.lemmas.List.{take_more, length-map, length-take-le, take_all}
-use Rattle.kv_base.specs.Reserved.{Reserved}
 use Rattle.kv_ring.specs.Ends.{peers, SameRings}
 use Rattle.kv_ring.specs.declared.ends.Ends.{Ends}
 use Rattle.kv_ring.specs.declared.message.Answer.{Answer}
@@ -15,7 +14,7 @@ use Rattle.kv_groups.specs.Delivering.{Delivers, DeliversAll, AreBack, AreFree, 
 use Rattle.kv_groups.specs.Taking.{connection_of}
 use Rattle.kv_groups.specs.Traffic.{Traffic, traffic_with}
 use Rattle.kv_groups.proofs.BatchLemmas.{in_hand-push}
-use Rattle.kv_groups.proofs.GatherLemmas.{set-here, set-there, read-is, same-rings, one_place}
+use Rattle.kv_groups.proofs.GatherLemmas.{set-here, set-there, read-is, one_place}
 use Rattle.kv_groups.proofs.GatherLemmas.{of_session-length}
 
 -- the tasks of the sessions up to this one

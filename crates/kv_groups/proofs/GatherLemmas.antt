@@ -1,8 +1,8 @@
 -- What a turn has taken from the first sessions, with one session more.
-use Rattle.std.proofs.Common.{◌≡◌, ◌≢◌, ◌⊎◌, inl, inr, ⊎_elim, ℕ, zero, suc, ◌+◌, ◌*◌, ◌<◌, ◌≤◌, List, []}
-use Rattle.std.proofs.Common.{◌∷◌, ◌++◌, map, length, get_or, set, Option, None, Some, Bool, true, false, ◌||◌}
-use Rattle.std.proofs.Common.{refl, sym, ap, ◌∙◌, subst, subst₂, arith, append_assoc, append-nil}
-use Rattle.std.proofs.Common.{length-append, length-set, is_some}
+use Rattle.std.proofs.Common.{◌≡◌, ◌≢◌, ◌⊎◌, ⊎_elim, ℕ, zero, suc, ◌+◌, ◌<◌, ◌≤◌, List, []}
+use Rattle.std.proofs.Common.{◌∷◌, ◌++◌, map, length, get_or, set, None, Bool, true, false, ◌||◌}
+use Rattle.std.proofs.Common.{refl, sym, ap, ◌∙◌, subst, arith, append_assoc, append-nil}
+use Rattle.std.proofs.Common.{length-append, length-set}
 use Rattle.std.proofs.lemmas.List.{map-append, length-map, get_or_append_left, get_or-set_same}
 use Rattle.std.proofs.lemmas.List.{get_or-set_other, get_or_default}
 use Rattle.kv_ring.specs.Ends.{peers, SameRings}

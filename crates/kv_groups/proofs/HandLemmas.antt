@@ -1,6 +1,6 @@
 -- Lemmas on tasks that are moved into a batch and back.
-use Rattle.std.proofs.Common.{◌≡◌, ℕ, zero, suc, ◌+◌, ◌-◌, ◌<◌, ◌≤◌, List, [], ◌∷◌, ◌++◌, map, length, take}
-use Rattle.std.proofs.Common.{drop, get_or, set, refl, sym, ap, ◌∙◌, subst, arith, append_assoc}
+use Rattle.std.proofs.Common.{◌≡◌, ℕ, ◌+◌, ◌<◌, List, [], ◌∷◌, ◌++◌, map, length, take}
+use Rattle.std.proofs.Common.{drop, get_or, set, sym, ap, ◌∙◌, arith, append_assoc}
 use Rattle.std.proofs.lemmas.List.{take_more, drop_more, drop-set-lt, drop-drop, get_or-drop, drop-set}
 use Rattle.std.proofs.lemmas.List.{map-append, length-map, get_or-map, take_at}
 use Rattle.kv_ring.specs.declared.task.Task.{Task}

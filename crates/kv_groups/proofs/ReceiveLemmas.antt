@@ -1,11 +1,12 @@
 -- What one session's answer and message leave of its traffic and of what is in hand of it.
-use Rattle.std.proofs.Common.{◌≡◌, ◌≢◌, ◌⊎◌, inl, inr, ℕ, ◌+◌, ◌≤◌, List, [], ◌∷◌, ◌++◌, length, Option}
+use Rattle.std.proofs.Common.{◌≡◌, ◌≢◌, ℕ, ◌≤◌, List, [], ◌∷◌, ◌++◌, length, Option}
 use Rattle.std.proofs.Common.{None, Some, Bool, true, false, cond, ◌||◌, is_some, refl, sym, ap, subst, ◌∙◌}
-use Rattle.std.proofs.Common.{arith, append-nil}
+use Rattle.std.proofs.Common.{arith, append-nil, true≢false}
 use Rattle.std.specs.Prelude.{option_to_list, nat_eq}
 use Rattle.std.proofs.lemmas.Bool.Decides.{nat_tests}
 use Rattle.kv_base.specs.Reserved.{Reserved}
-use Rattle.kv_ring.specs.Ends.{sent_to, received_from, known_from, SameRings, SameOut, SameBack, only_at}
+use Rattle.kv_ring.specs.Ends.{sent_to, received_from, known_from, places_to, SameRings, SameOut}
+use Rattle.kv_ring.specs.Ends.{SameBack, only_at}
 use Rattle.kv_ring.specs.declared.ends.Ends.{Ends}
 use Rattle.kv_ring.specs.declared.message.Answer.{Answer}
 use Rattle.kv_ring.specs.declared.message.Ask.{Ask}
@@ -14,7 +15,7 @@ use Rattle.kv_ring.specs.declared.task.Task.{Task}
 use Rattle.kv_groups.specs.declared.connection.Connection.{Connection}
 use Rattle.kv_groups.specs.Batched.{tasks_in, IsEmptied}
 use Rattle.kv_groups.specs.Gathering.{Intake, Gathers, IsInHand}
-use Rattle.kv_groups.specs.Taking.{after_message, after_came, is_bye, group_taken, takes_group}
+use Rattle.kv_groups.specs.Taking.{after_came, is_bye, group_taken, takes_group}
 use Rattle.kv_groups.specs.Traffic.{Traffic, traffic_with, Sends, Receives}
 use Rattle.kv_groups.proofs.TakeLemmas.{is-taken, all-few}
 
@@ -46,45 +47,51 @@ emptied-none (Some was) now e h = absurd (cc)
 module _ {F : Type 0} where
   same-traffic : (ends new : Ends (Answer F) (Ask F) 8) (s : ℕ)
       → received_from new s ≡ received_from ends s → sent_to new s ≡ sent_to ends s
-      → known_from new s ≡ known_from ends s → traffic_with new s ≡ traffic_with ends s
-  same-traffic ends new s received sent known =
-      let make : List (Ask F) → List (Answer F) → List (Ask F) → Traffic F = λ r a k.
-      record { received = r; sent = a; known = k } in
-      ap (λ r. make r (sent_to new s) (known_from new s)) received
-      ∙ ap (λ a. make (received_from ends s) a (known_from new s)) sent
-      ∙ ap (λ k. make (received_from ends s) (sent_to ends s) k) known
+      → known_from new s ≡ known_from ends s → places_to new s ≡ places_to ends s
+      → traffic_with new s ≡ traffic_with ends s
+  same-traffic ends new s received sent known places =
+      let make : List (Ask F) → List (Answer F) → List (Ask F) → ℕ → Traffic F = λ r a k n.
+      record { received = r; sent = a; known = k; places = n } in
+      ap (λ r. make r (sent_to new s) (known_from new s) (places_to new s)) received
+      ∙ ap (λ a. make (received_from ends s) a (known_from new s) (places_to new s)) sent
+      ∙ ap (λ k. make (received_from ends s) (sent_to ends s) k (places_to new s)) known
+      ∙ ap (λ n. make (received_from ends s) (sent_to ends s) (known_from ends s) n) places
 
   -- the answer was sent
   pub pushed-sends : (session : ℕ) (ends new : Ends (Answer F) (Ask F) 8) (answer : Answer F)
       → ((other : ℕ) → sent_to new other
       ≡ sent_to ends other ++ only_at session other (answer ∷ []))
+      → ((other : ℕ) → other ≢ session → places_to new other ≡ places_to ends other)
       → SameBack ends new → SameRings ends new → Sends session ends new (Some answer) None
-  pushed-sends session ends new answer sent back rings = record {
+  pushed-sends session ends new answer sent places back rings = record {
     sent = append-nil (sent_to new session) ∙ sent session
         ∙ ap (λ xs. sent_to ends session ++ xs) (only-here session (answer ∷ []));
     received = back.received session;
     known = back.known session;
     none = λ e. refl;
+    full = λ some. absurd (true≢false (sym some));
     others = λ other ne. same-traffic ends new other (back.received other)
         (sent other ∙ ap (λ xs. sent_to ends other ++ xs) (only-there session other (answer ∷ []) ne)
-        ∙ append-nil (sent_to ends other)) (back.known other);
+        ∙ append-nil (sent_to ends other)) (back.known other) (places other ne);
     rings = rings;
   }
 
   -- it waits
   pub refused-sends : (session : ℕ) (ends new : Ends (Answer F) (Ask F) 8)
       (answer refused : Answer F) → refused ≡ answer
-      → ((other : ℕ) → sent_to new other ≡ sent_to ends other)
+      → ((other : ℕ) → sent_to new other ≡ sent_to ends other) → places_to new session ≡ 0
+      → ((other : ℕ) → other ≢ session → places_to new other ≡ places_to ends other)
       → SameBack ends new → SameRings ends new
       → Sends session ends new (Some answer) (Some refused)
-  refused-sends session ends new answer refused same sent back rings = record {
+  refused-sends session ends new answer refused same sent full places back rings = record {
     sent = ap (λ xs. xs ++ refused ∷ []) (sent session)
         ∙ ap (λ a. sent_to ends session ++ a ∷ []) same;
     received = back.received session;
     known = back.known session;
     none = λ e. absurd (cc);
+    full = λ some. full;
     others = λ other ne. same-traffic ends new other (back.received other) (sent other)
-        (back.known other);
+        (back.known other) (places other ne);
     rings = rings;
   }
 
@@ -96,6 +103,7 @@ module _ {F : Type 0} where
     received = refl;
     known = refl;
     none = λ e. refl;
+    full = λ some. absurd (true≢false (sym some));
     others = λ other ne. refl;
     rings = record { peers = refl; lines = λ other. refl };
   }
@@ -117,11 +125,13 @@ module _ {F : Type 0} where
             ∙ ap (λ xs. received_from ends session ++ xs) (only-here session (option_to_list came));
         none = none;
         sent = out.sent session;
+        places = out.places session;
         taken = taken;
         others = λ other ne. same-traffic ends new other
             (received other ∙ ap (λ xs. received_from ends other ++ xs)
             (only-there session other (option_to_list came) ne)
-            ∙ append-nil (received_from ends other)) (out.sent other) (others other ne);
+            ∙ append-nil (received_from ends other)) (out.sent other) (others other ne)
+            (out.places other);
         rings = rings;
       }
 
@@ -232,6 +242,7 @@ module _ {F : Type 0} where
             ∙ ap (λ o. sent_to mid session ++ option_to_list o) stays ∙ s.sent;
         waits = ap is_some (sym stays);
         waited = λ e. stays ∙ s.none e;
+        full = λ some. r.places ∙ s.full (ap is_some (sym stays) ∙ some);
         gone = gone_is ∙ ap (λ (c : Connection F). c.gone) r.taken
             ∙ after-gone worker workers between r.came ∙ ap (λ b. b || is_bye r.came) same_gone;
         taken = subst (λ ts. IsInHand (group_taken worker workers (is_some between.waiting) r.came)

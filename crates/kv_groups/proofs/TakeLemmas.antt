@@ -6,7 +6,6 @@ use Rattle.std.specs.Prelude.{nat_le, nat_lt}
 use Rattle.std.specs.List.{find}
 use Rattle.std.proofs.lemmas.Bool.{and_parts}
 use Rattle.std.proofs.lemmas.Bool.Decides.{nat_tests}
-use Rattle.kv_base.specs.declared.reply.Reply.{Reply}
 use Rattle.kv_base.specs.declared.reply.Reply.TheVariants.{BadKey, TooLarge}
 use Rattle.kv_model.specs.Layout.{all_classes, class_of, is_key_length, room_of}
 use Rattle.kv_ring.specs.declared.task.Task.{Task}

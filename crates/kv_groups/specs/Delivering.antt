@@ -11,7 +11,7 @@ use Rattle.kv_ring.specs.declared.task.Task.{Task}
 use Rattle.kv_groups.specs.declared.connection.Connection.{Connection}
 use Rattle.kv_groups.specs.Batched.{in_hand, tasks_in}
 use Rattle.kv_groups.specs.Taking.{connection_of}
-use Rattle.kv_groups.specs.Traffic.{Traffic, traffic_with}
+use Rattle.kv_groups.specs.Traffic.{Traffic, traffic_with, WaitsForPlace}
 
 -- the tasks of the session of this number
 abbrev pub tasks_of : List (List Task) → ℕ → List Task
@@ -23,13 +23,14 @@ module _ {F : Type 0} where
   answer_of None tasks = []
   answer_of (Some group) tasks = Group (record { items = tasks; spare = group.spare }) ∷ []
 
-  -- the answer with these tasks was sent, or waits; nothing is in hand any more
+  -- the answer with these tasks was sent, or waits for want of a place; nothing is in hand any more
   pub record Delivers (traffic new : Traffic F) (old now : Connection F) (tasks : List Task) :
       Type 0 where
     pub received : new.received ≡ traffic.received
     pub known : new.known ≡ traffic.known
     pub sent : new.sent ++ option_to_list now.waiting
         ≡ (traffic.sent ++ option_to_list old.waiting) ++ answer_of old.group tasks
+    pub full : WaitsForPlace old.waiting traffic → WaitsForPlace now.waiting new
     pub gone : now.gone ≡ old.gone
     pub group : now.group ≡ None
 

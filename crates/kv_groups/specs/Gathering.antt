@@ -11,7 +11,7 @@ use Rattle.kv_ring.specs.declared.task.Task.{Task}
 use Rattle.kv_groups.specs.declared.connection.Connection.{Connection}
 use Rattle.kv_groups.specs.Batched.{IsEmptied}
 use Rattle.kv_groups.specs.Taking.{connection_of, is_bye, group_taken}
-use Rattle.kv_groups.specs.Traffic.{Traffic, traffic_with}
+use Rattle.kv_groups.specs.Traffic.{Traffic, traffic_with, WaitsForPlace}
 
 -- what a turn takes from a session: whether an answer to it still waits, the message that came, if
 -- one did, and the tasks of the group that it takes
@@ -31,7 +31,8 @@ module _ {F : Type 0} where
   abbrev pub taken_by : ℕ → ℕ → Intake F → Option (ℕ × Reserved Task)
   taken_by worker workers intake = group_taken worker workers intake.waits intake.came
 
-  -- the answer that waited was sent, or waits on; then the next message was taken or passed over
+  -- the answer that waited was sent, or waits on for want of a place; then the next message was taken
+  -- or passed over
   pub record Gathers (worker workers : ℕ) (traffic new : Traffic F) (old now : Connection F)
       (intake : Intake F) : Type 0 where
     pub received : new.received ≡ traffic.received ++ option_to_list intake.came
@@ -40,6 +41,7 @@ module _ {F : Type 0} where
         ≡ traffic.sent ++ option_to_list old.waiting
     pub waits : intake.waits ≡ is_some now.waiting
     pub waited : old.waiting ≡ None → now.waiting ≡ None
+    pub full : WaitsForPlace now.waiting new
     pub gone : now.gone ≡ (old.gone || is_bye intake.came)
     pub taken : IsInHand (taken_by worker workers intake) now intake.tasks
 

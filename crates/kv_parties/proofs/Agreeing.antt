@@ -173,14 +173,15 @@ pub record Owns (setting : Setting) (before : ℕ → List Write) (own : ℕ →
   pub above : (w : ℕ) → w < setting.workers
       → AllByRecursion (λ t. (setting.floor < t) × (t < 2 ^ 62)) (stamps (own w))
 
--- a pair is one of a worker's, or one that its session answered itself, and none is there more
--- often than the workers have it
+-- a pair is one of a worker's, or one that its session answered itself, and each of a worker's is
+-- there just as often as the workers have it
 pub record Fits (setting : Setting) (own : ℕ → List Pair) (pairs : List Pair) : Type 0 where
   pub each : (p : Pair) → In p pairs → ((w : ℕ) × (w < setting.workers) × In p (own w))
       ⊎ IsHere setting.layout p
   pub all : (w : ℕ) (p : Pair) → w < setting.workers → In p (own w) → In p pairs
   pub weighs : (f : Pair → ℕ) → ((p : Pair) → IsHere setting.layout p → f p ≡ 0)
       → weigh f pairs ≤ sum_below setting.workers (λ w. weigh f (own w))
+  pub holds : (f : Pair → ℕ) → sum_below setting.workers (λ w. weigh f (own w)) ≤ weigh f pairs
 
 module _ (setting : Setting) (before : ℕ → List Write) (base : IsBefore setting before)
     (own : ℕ → List Pair) (ranges : ℕ → List Range) (owns : Owns setting before own ranges)

@@ -15,7 +15,7 @@ use Rattle.kv_base.specs.declared.reply.Reply.{Reply}
 use Rattle.kv_base.specs.declared.reply.Reply.TheVariants.{Full}
 use Rattle.kv_base.specs.declared.reply.Reply.TheVariants.{Closed, StampsSpent}
 use Rattle.kv_stamps.specs.declared.view.Range.{Range}
-use Rattle.kv_model.specs.Agreement.{IsAnswer}
+use Rattle.kv_model.specs.Agreement.{AgreesWithMap, IsAnswer}
 use Rattle.kv_model.specs.Batch.{class_written}
 use Rattle.kv_model.specs.History.{Write}
 use Rattle.kv_model.specs.Layout.{Layout}
@@ -29,7 +29,9 @@ use Rattle.kv_parties.specs.Causes.{KeepsCauses, HasCauses, most_tasks}
 use Rattle.kv_parties.specs.Setting.{Setting, IsOwned, owns, owned_pairs, owned_writes}
 use Rattle.kv_parties.proofs.Lists.{In, In-left, In-right, In-append, All-In, In-All, In-filter}
 use Rattle.kv_parties.proofs.Lists.{In-filter-back, In-row, sum_below-le, sum_below-one}
+use Rattle.kv_parties.proofs.Lists.{sum_below-at, eq_self}
 use Rattle.kv_parties.proofs.Owned.{IsHere, refuses}
+use Rattle.kv_parties.proofs.Parts.{owner-lt}
 use Rattle.kv_parties.proofs.Agreeing.{weigh, weigh-append, weigh-le, owner-of, Owns, Fits}
 use Rattle.kv_parties.proofs.Recovering.{of-is, left_by, left-In, In-left_by}
 
@@ -61,6 +63,15 @@ module _ (test : Pair → Bool) where
         | true ↦ omega (arith, weigh-length ps)
         | false ↦ omega (arith, weigh-length ps)
       ]
+
+  weigh-some : (ps : List Pair) → list_any test ps ≡ true → 1 ≤ weigh (mark test) ps
+  weigh-some [] e = absurd (cc)
+  weigh-some (p ∷ ps) e =
+      (elim (test p) as (λ b. (b || list_any test ps) ≡ true
+      → 1 ≤ cond b 1 0 + weigh (mark test) ps) [
+        | true ↦ λ e. omega arith
+        | false ↦ λ e. omega (arith, weigh-some ps e)
+      ]) e
 
   any-In : (p : Pair) (ps : List Pair) → In p ps → test p ≡ true → list_any test ps ≡ true
   any-In p [] i e = absurd i
@@ -94,6 +105,12 @@ module _ (test : Pair → Bool) where
 below-top : (n m top : ℕ) → min (n + 1) top ≤ m → m < top → min (n + 1) top ≡ n + 1
 below-top n m top le lt = omega arith
 
+below-next : (n top : ℕ) → min (n + 1) top ≤ n + 1
+below-next n top = omega arith
+
+next-most : (n : ℕ) → next_count n ≤ n + 1
+next-most n = below-next n (2 ^ 64 - 1)
+
 -- at most so many replies tell of one rise of the count
 faults-few : (batches : List (List Pair)) (n : ℕ)
     → AllByRecursion (λ batch. length batch ≤ most_tasks) batches
@@ -126,6 +143,28 @@ faults-few (b ∷ batches) n few lt =
         faults-few batches n few.1 lt,
       )
     ]) refl lt
+
+-- and the count rises by no more than tell of it
+faults-rise : (batches : List (List Pair)) (n : ℕ)
+    → faults_behind batches n ≤ n + weigh (mark tells_fault) (pairs_in batches)
+faults-rise [] n = omega arith
+faults-rise (b ∷ batches) n =
+    (elim (any_fault b) as (λ c. any_fault b ≡ c
+    → faults_behind batches (cond c (next_count n) n)
+    ≤ n + weigh (mark tells_fault) (b ++ pairs_in batches)) [
+      | true ↦ λ e. omega (
+        arith,
+        weigh-append (mark tells_fault) b (pairs_in batches),
+        weigh-some tells_fault b e,
+        next-most n,
+        faults-rise batches (next_count n),
+      )
+      | false ↦ λ e. omega (
+        arith,
+        weigh-append (mark tells_fault) b (pairs_in batches),
+        faults-rise batches n,
+      )
+    ]) refl
 
 -- a closed store answers nothing that is unsure
 closed-batch : (b : List Pair) → AllByRecursion (IsClosedAt true) b
@@ -324,6 +363,23 @@ module _ (setting : Setting) (before : ℕ → List Write) (base : IsBefore sett
                 )
           ]) refl
 
+  -- and its own pairs that pass it are among them
+  owned-count : (w : ℕ) (test : Pair → Bool) → w < setting.workers
+      → weigh (mark test) (own w) ≤ count_by test (owned_pairs setting.workers w pairs)
+  owned-count w test lt =
+      let owned : Pair → Bool = λ p. owns setting.workers w (key_of p.request) in
+      let f : Pair → ℕ = λ p. cond (owned p) (mark test p) 0 in
+      omega (
+        arith,
+        weigh-count test owned pairs,
+        fits.holds f,
+        sum_below-at setting.workers w (λ v. weigh f (own v)) lt,
+        weigh-le (mark test) f (own w) (λ p i. omega (
+          arith,
+          ap {B = ℕ} (λ b. cond b (mark test p) 0) (owned-is w w p lt i ∙ eq_self w),
+        )),
+      )
+
   -- a write that the worker's own pairs or its earlier writes have is one of its keys among all
   own-among : (w : ℕ) (x : Write) → w < setting.workers → In x (all_writes (before w) (own w))
       → In x (owned_writes setting.workers w (all_writes (all_before setting before) pairs))
@@ -409,6 +465,13 @@ module _ (setting : Setting) (before : ℕ → List Write) (base : IsBefore sett
           faults-few batches faults keeps.few (subst (λ n. n < 2 ^ 64 - 1) keeps.counted top),
           keeps.counted,
         );
+    rose = omega (
+      arith,
+      owned-count w tells_fault lt,
+      ap (weigh (mark tells_fault)) same,
+      faults-rise batches faults,
+      keeps.counted,
+    );
     unsure = omega (
       arith,
       count-owned w is_unsure_pair
@@ -441,3 +504,38 @@ module _ (setting : Setting) (before : ℕ → List Write) (base : IsBefore sett
         (λ p b class e. absurd (refuses (λ reply. reply ≡ Full class → ⊥) (λ e. absurd (cc))
         (λ e. absurd (cc)) (λ e. absurd (cc)) setting.layout p b e));
   }
+
+-- each of the pairs is about a key that a worker owns
+pub some-owner : (setting : Setting) (history : List Write) (pairs : List Pair)
+    → 1 ≤ setting.workers
+    → AgreesWithMap setting.told setting.layout history setting.floor pairs → (p : Pair)
+    → In p pairs → (w : ℕ) × (w < setting.workers) × In p (owned_pairs setting.workers w pairs)
+some-owner setting history pairs some right p i =
+    let answer = All-In (λ (q : Pair). IsAnswer setting.told setting.layout
+    (history ++ writes pairs) q.request q.reply) p pairs right.replies i in
+    let k = answered-keyed setting.told setting.layout (history ++ writes pairs) p.request p.reply
+    answer in
+    let w : ℕ = owner_of k.0 setting.workers in (
+      w,
+      owner-lt setting.layout setting.workers some k.0,
+      In-filter (λ (q : Pair). owns setting.workers w (key_of q.request)) p pairs
+          (ap (owns setting.workers w) k.1 ∙ eq_self w) i,
+    )
+
+-- so where one is unsure, one of a worker's keys is
+pub unsure-owner : (setting : Setting) (history : List Write) (pairs : List Pair)
+    → 1 ≤ setting.workers
+    → AgreesWithMap setting.told setting.layout history setting.floor pairs
+    → any_unsure pairs ≡ true
+    → (w : ℕ) × (w < setting.workers) × (any_unsure (owned_pairs setting.workers w pairs) ≡ true)
+unsure-owner setting history pairs some right e =
+    let r = any-back is_unsure_pair pairs e in
+    let o = some-owner setting history pairs some right r.0 r.1 in
+    (o.0, o.1, any-In is_unsure_pair r.0 (owned_pairs setting.workers o.0 pairs) o.2 r.2)
+
+pub unsure-among : (workers w : ℕ) (pairs : List Pair)
+    → any_unsure (owned_pairs workers w pairs) ≡ true → any_unsure pairs ≡ true
+unsure-among workers w pairs e =
+    let r = any-back is_unsure_pair (owned_pairs workers w pairs) e in
+    let i = In-filter-back (λ (q : Pair). owns workers w (key_of q.request)) r.0 pairs r.1 in
+    any-In is_unsure_pair r.0 pairs i.1 r.2

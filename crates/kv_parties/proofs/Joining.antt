@@ -30,6 +30,7 @@ use Rattle.kv_parties.proofs.Owned.{IsHere}
 use Rattle.kv_parties.proofs.Agreeing.{weigh, weigh-append, Owns, Fits}
 use Rattle.kv_parties.proofs.Parts.{here, all_parts, IsOrdered}
 use Rattle.kv_parties.proofs.Parts.{parts_ordered, owner-lt, routed_to_owner, weigh-exchanges}
+use Rattle.kv_parties.proofs.Parts.{exchanges-weigh}
 use Rattle.kv_parties.proofs.Parts.{across_exchanges, within_exchanges, in_answered, out_answered}
 use Rattle.kv_parties.proofs.Coming.{Answers-fewer, SessionPairs, heard_answers, pairs_of_session}
 
@@ -213,6 +214,23 @@ module _ (setting : Setting) (before : ℕ → List Write) (rings : Rings) (rang
             )),
       )
 
+  -- and no fewer
+  pub all_few : (f : Pair → ℕ) → weigh f (rings_answered setting rings.answered)
+      ≤ sum_below setting.workers (λ w. weigh f (own w))
+  all_few f =
+      let of_worker : ℕ → List Pair =
+      λ w. row setting.sessions (λ s. pairs_in (rings.answered w s)) in
+      omega (
+        arith,
+        weigh-row f setting.workers of_worker,
+        sum_below-le setting.workers (λ w. weigh f (of_worker w)) (λ w. weigh f (own w))
+            (λ w lt. omega (
+              arith,
+              weigh-row f setting.sessions (λ s. pairs_in (rings.answered w s)),
+              few f w lt,
+            )),
+      )
+
   pub all_fit : Fits setting own (rings_answered setting rings.answered)
   all_fit =
       let of_worker : ℕ → List Pair =
@@ -226,16 +244,8 @@ module _ (setting : Setting) (before : ℕ → List Write) (rings : Rings) (rang
             let o = out_own w p lt i in
             In-row p setting.workers w of_worker lt
             (In-row p setting.sessions o.0 (λ s. pairs_in (rings.answered w s)) o.1 o.2);
-        weighs = λ f none. omega (
-          arith,
-          weigh-row f setting.workers of_worker,
-          sum_below-le setting.workers (λ w. weigh f (of_worker w)) (λ w. weigh f (own w))
-              (λ w lt. omega (
-                arith,
-                weigh-row f setting.sessions (λ s. pairs_in (rings.answered w s)),
-                few f w lt,
-              )),
-        );
+        weighs = λ f none. all_few f;
+        holds = all_many;
       }
 
   -- each part of each exchange of a session was answered in order
@@ -370,5 +380,27 @@ module _ (setting : Setting) (before : ℕ → List Write) (rings : Rings) (rang
         sum_below-le setting.workers
             (λ w. sum_below setting.sessions (λ s. weigh f (pairs_in (rings.answered w s))))
             (λ w. weigh f (own w)) (few f),
+      );
+      holds = λ f. omega (
+        arith,
+        weigh-row f setting.sessions (λ s. pairs_in (courses s).groups),
+        sum_below-le setting.workers (λ w. weigh f (own w))
+            (λ w. sum_below setting.sessions (λ s. weigh f (pairs_in (rings.answered w s))))
+            (many f),
+        sum_below-swap setting.sessions setting.workers
+            (λ s w. weigh f (pairs_in (rings.answered w s))),
+        sum_below-le setting.sessions
+            (λ s. sum_below setting.workers (λ w. weigh f (pairs_in (rings.answered w s))))
+            (λ s. weigh f (pairs_in (courses s).groups))
+            (λ s lt.
+            let tale = of_session s lt in
+            omega (
+              arith,
+              ap (λ g. weigh f (pairs_in g)) tale.same,
+              exchanges-weigh setting.layout setting.workers base.some_worker f tale.exchanges,
+              sum_below-same setting.workers (λ w. weigh f (pairs_in (rings.answered w s)))
+                  (λ w. weigh f (pairs_in (all_parts setting.workers w tale.exchanges)))
+                  (λ w less. ap (weigh f) (came_all s lt w less)),
+            )),
       );
     }

@@ -1,4 +1,4 @@
-mod Lists
+pub mod Lists
 mod Histories
 mod Owned
 mod Agreeing
@@ -9,8 +9,8 @@ mod Joining
 mod Beginning
 mod Recovering
 mod Meeting
-mod Causing
+pub mod Causing
 mod Standing
-mod Spending
+pub mod Spending
 mod Starting
 mod Propositions

@@ -19,6 +19,7 @@ use Rattle.kv_parties.specs.Sessions.{asked_by, all_asked}
 use Rattle.kv_parties.proofs.Lists.{In, eq_self, In-left, In-right, In-append, All-In, In-All}
 use Rattle.kv_parties.proofs.Lists.{In-filter, In-filter-back, In-map, In-map-back}
 use Rattle.kv_parties.proofs.Lists.{In-filter_map-back, sum_below-same, sum_below-add, at_least}
+use Rattle.kv_parties.proofs.Lists.{sum_below-zero, sum_below-one}
 use Rattle.kv_parties.proofs.Owned.{IsHere, stampless}
 use Rattle.kv_parties.proofs.Agreeing.{weigh, weigh-append, stamp-In}
 
@@ -155,6 +156,94 @@ module _ (layout : Layout) (n : ℕ) (some : 1 ≤ n) where
             | false ↦ λ q. q
           ]) p
 
+  -- whether a worker got a pair, where it is no key's
+  goes-none : (h : Handled) (w : ℕ) → key_of h.pair.request ≡ None → goes_to n w h ≡ false
+  goes-none h w e = ap (λ o. h.routed && owns n w o) e
+      ∙ (elim h.routed as (λ b. (b && false) ≡ false) [
+        | true ↦ refl
+        | false ↦ refl
+      ])
+
+  module _ (f : Pair → ℕ) where
+    weigh-part : (h : Handled) (handled : List Handled) (w : ℕ)
+        → weigh f (part_of n w (h ∷ handled))
+        ≡ cond (goes_to n w h) (f h.pair) 0 + weigh f (part_of n w handled)
+    weigh-part h handled w =
+        elim (goes_to n w h) as (λ b. weigh f (map (λ (x : Handled). x.pair)
+        (cond b (h ∷ filter (goes_to n w) handled) (filter (goes_to n w) handled)))
+        ≡ cond b (f h.pair) 0 + weigh f (part_of n w handled)) [
+          | true ↦ refl
+          | false ↦ omega arith
+        ]
+
+    weigh-answered : (part : List Pair) (later : List (List Pair))
+        → weigh f (pairs_in (answered_by part ++ later)) ≡ weigh f part + weigh f (pairs_in later)
+    weigh-answered [] later = omega arith
+    weigh-answered (p ∷ ps) later = weigh-append f (p ∷ ps) (pairs_in later)
+
+    -- a pair of a group counts in one worker's part at most
+    counts-no-more : (h : Handled) → sum_below n (λ w. cond (goes_to n w h) (f h.pair) 0) ≤ f h.pair
+    counts-no-more h =
+        (elim h.routed as (λ b. h.routed ≡ b
+        → sum_below n (λ w. cond (goes_to n w h) (f h.pair) 0) ≤ f h.pair) [
+          | true ↦ λ r. (elim (key_of h.pair.request) as (λ o. key_of h.pair.request ≡ o
+              → sum_below n (λ w. cond (goes_to n w h) (f h.pair) 0) ≤ f h.pair) [
+                | None ↦ λ k. omega (
+                  arith,
+                  sum_below-same n (λ w. cond (goes_to n w h) (f h.pair) 0) (λ w. 0)
+                      (λ w lt. ap (λ b. cond b (f h.pair) 0) (goes-none h w k)),
+                  sum_below-zero n,
+                )
+                | Some key ↦ λ k. omega (
+                  arith,
+                  sum_below-same n (λ w. cond (goes_to n w h) (f h.pair) 0)
+                      (λ w. cond (nat_eq (owner_of key n) w) (f h.pair) 0)
+                      (λ w lt. ap (λ b. cond b (f h.pair) 0) (goes-by h key r k w)),
+                  sum_below-one n (owner_of key n) (f h.pair),
+                )
+              ]) refl
+          | false ↦ λ r. omega (
+            arith,
+            sum_below-same n (λ w. cond (goes_to n w h) (f h.pair) 0) (λ w. 0)
+                (λ w lt. ap (λ b. cond (b && owns n w (key_of h.pair.request)) (f h.pair) 0) r),
+            sum_below-zero n,
+          )
+        ]) refl
+
+    -- the workers' parts are no more than the pairs of the group
+    parts-weigh : (handled : List Handled) → sum_below n (λ w. weigh f (part_of n w handled))
+        ≤ weigh f (map (λ (x : Handled). x.pair) handled)
+    parts-weigh [] = omega (arith, sum_below-zero n)
+    parts-weigh (h ∷ handled) = omega (
+      arith,
+      sum_below-same n (λ w. weigh f (part_of n w (h ∷ handled)))
+          (λ w. cond (goes_to n w h) (f h.pair) 0 + weigh f (part_of n w handled))
+          (λ w lt. weigh-part h handled w),
+      sum_below-add n (λ w. cond (goes_to n w h) (f h.pair) 0)
+          (λ w. weigh f (part_of n w handled)),
+      counts-no-more h,
+      parts-weigh handled,
+    )
+
+    pub exchanges-weigh : (exchanges : List Exchange)
+        → sum_below n (λ w. weigh f (pairs_in (all_parts n w exchanges)))
+        ≤ weigh f (pairs_in (map exchange_pairs exchanges))
+    exchanges-weigh [] = omega (arith, sum_below-zero n)
+    exchanges-weigh (r ∷ exchanges) =
+        let later : ℕ → List (List Pair) = λ w. all_parts n w exchanges in
+        omega (
+          arith,
+          weigh-append f (exchange_pairs r) (pairs_in (map exchange_pairs exchanges)),
+          parts-weigh r.handled,
+          exchanges-weigh exchanges,
+          sum_below-same n
+              (λ w. weigh f (pairs_in (answered_by (part_of n w r.handled) ++ later w)))
+              (λ w. weigh f (part_of n w r.handled) + weigh f (pairs_in (later w)))
+              (λ w lt. weigh-answered (part_of n w r.handled) (later w)),
+          sum_below-add n (λ w. weigh f (part_of n w r.handled))
+              (λ w. weigh f (pairs_in (later w))),
+        )
+
   module _ (f : Pair → ℕ) (none : (p : Pair) → IsHere layout p → f p ≡ 0) where
     -- a pair of a group counts in a worker's part, or not at all
     counts-once : (h : Handled) → IsHandled layout h
@@ -183,19 +272,11 @@ module _ (layout : Layout) (n : ℕ) (some : 1 ≤ n) where
         ≤ sum_below n (λ w. weigh f (part_of n w handled))
     weigh-parts [] is = omega arith
     weigh-parts (h ∷ handled) is =
-        let part : (w : ℕ) → weigh f (part_of n w (h ∷ handled))
-        ≡ cond (goes_to n w h) (f h.pair) 0 + weigh f (part_of n w handled) =
-        λ w. elim (goes_to n w h) as (λ b. weigh f (map (λ (x : Handled). x.pair)
-        (cond b (h ∷ filter (goes_to n w) handled) (filter (goes_to n w) handled)))
-        ≡ cond b (f h.pair) 0 + weigh f (part_of n w handled)) [
-          | true ↦ refl
-          | false ↦ omega arith
-        ] in
         omega (
           arith,
           sum_below-same n (λ w. weigh f (part_of n w (h ∷ handled)))
               (λ w. cond (goes_to n w h) (f h.pair) 0 + weigh f (part_of n w handled))
-              (λ w lt. part w),
+              (λ w lt. weigh-part f h handled w),
           sum_below-add n (λ w. cond (goes_to n w h) (f h.pair) 0)
               (λ w. weigh f (part_of n w handled)),
           counts-once h is.0,
@@ -209,13 +290,6 @@ module _ (layout : Layout) (n : ℕ) (some : 1 ≤ n) where
     weigh-exchanges [] is = omega arith
     weigh-exchanges (r ∷ exchanges) is =
         let later : ℕ → List (List Pair) = λ w. all_parts n w exchanges in
-        let part : (w : ℕ) → weigh f (pairs_in (answered_by (part_of n w r.handled) ++ later w))
-        ≡ weigh f (part_of n w r.handled) + weigh f (pairs_in (later w)) =
-        λ w. elim (part_of n w r.handled) as (λ ps. weigh f (pairs_in (answered_by ps ++ later w))
-        ≡ weigh f ps + weigh f (pairs_in (later w))) [
-          | [] ↦ omega arith
-          | p ∷ ps ↦ weigh-append f (p ∷ ps) (pairs_in (later w))
-        ] in
         omega (
           arith,
           weigh-append f (exchange_pairs r) (pairs_in (map exchange_pairs exchanges)),
@@ -224,7 +298,7 @@ module _ (layout : Layout) (n : ℕ) (some : 1 ≤ n) where
           sum_below-same n
               (λ w. weigh f (pairs_in (answered_by (part_of n w r.handled) ++ later w)))
               (λ w. weigh f (part_of n w r.handled) + weigh f (pairs_in (later w)))
-              (λ w lt. part w),
+              (λ w lt. weigh-answered f (part_of n w r.handled) (later w)),
           sum_below-add n (λ w. weigh f (part_of n w r.handled))
               (λ w. weigh f (pairs_in (later w))),
         )

@@ -18,7 +18,7 @@ use Rattle.kv_stamps.specs.declared.view.Range.{Range}
 use Rattle.kv_stamps.specs.declared.view.View.{View}
 use Rattle.kv_parties.specs.Begun.{IsBefore}
 use Rattle.kv_parties.specs.Groups.{Asked}
-use Rattle.kv_parties.specs.Joined.{Parties, AllKeep, NonePassed, all_answered}
+use Rattle.kv_parties.specs.Joined.{Parties, AllKeep, NonePassed, NoneWaits, all_answered, all_pairs}
 use Rattle.kv_parties.specs.Laws.{CountsAll}
 use Rattle.kv_parties.specs.Messages.{groups_in}
 use Rattle.kv_parties.specs.Rows.{sum_below}
@@ -29,13 +29,13 @@ use Rattle.kv_parties.specs.Setting.{Setting}
 use Rattle.kv_parties.specs.Stamps.{size_of, IsForGroup, IsMet}
 use Rattle.kv_parties.proofs.Agreeing.{weigh, stamp-In}
 use Rattle.kv_parties.proofs.Causing.{Contains-In}
-use Rattle.kv_parties.proofs.Joining.{session_fits, all_many, of_own}
+use Rattle.kv_parties.proofs.Joining.{session_fits, sessions_fit, all_many, all_few, of_own}
 use Rattle.kv_parties.proofs.Histories.{from_some}
 use Rattle.kv_parties.proofs.Lists.{In, count, In-left, In-right, In-append, In-flat_map-back}
 use Rattle.kv_parties.proofs.Lists.{In-filter_map-back, count-In, sum_below-le, sum_below-same}
 use Rattle.kv_parties.proofs.Lists.{sum_below-add, sum_below-zero, sum_below-swap, sum_below-at}
 use Rattle.kv_parties.proofs.Meeting.{rings_of, courses_of, ranges_of, rings_keep, same_history}
-use Rattle.kv_parties.proofs.Meeting.{took, groups_in-prefix, groups-asking}
+use Rattle.kv_parties.proofs.Meeting.{took, groups_in-prefix, groups-asking, all_quiet}
 use Rattle.kv_parties.proofs.Owned.{IsHere, stampless}
 use Rattle.kv_parties.proofs.Standing.{mine, owned}
 
@@ -246,6 +246,20 @@ module _ {F D : Type 0} (d : disks.Ghosts D) (setting : Setting) (parties : Part
     all_many setting parties.before (rings_of parties) (ranges_of parties) (courses_of parties)
         (rings_keep d setting parties keep passed) base (λ p. 1),
     length-weigh (all_answered setting parties),
+  )
+
+  -- where no session waits, workers answered no more requests than sessions did
+  pub answered_few : NoneWaits setting parties
+      → length (all_answered setting parties) ≤ length (all_pairs setting parties)
+  answered_few quiet = omega (
+    arith,
+    length-weigh (all_answered setting parties),
+    all_few setting parties.before (rings_of parties) (ranges_of parties) (courses_of parties)
+        (rings_keep d setting parties keep passed) base (λ p. 1),
+    (sessions_fit setting parties.before (rings_of parties) (ranges_of parties)
+        (courses_of parties) (rings_keep d setting parties keep passed) base
+        (all_quiet d setting parties keep passed quiet)).holds (λ p. 1),
+    length-weigh (all_pairs setting parties),
   )
 
 module _ {F D : Type 0} (d : disks.Ghosts D) (setting : Setting) (parties : Parties F D)

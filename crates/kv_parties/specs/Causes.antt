@@ -1,6 +1,6 @@
 -- Refusals and unsure replies, and what causes them.
-use Rattle.std.specs.Prelude.{◌≡◌, ◌≢◌, ℕ, ◌-◌, ◌*◌, ◌^◌, ◌<◌, ◌≤◌, List, [], ◌∷◌, ◌++◌, length, ⊤}
-use Rattle.std.specs.Prelude.{Bool, true, false, ◌||◌, Some, IsTrue, Contains, MatchOption}
+use Rattle.std.specs.Prelude.{◌≡◌, ◌≢◌, ℕ, ◌+◌, ◌-◌, ◌*◌, ◌^◌, ◌<◌, ◌≤◌, List, [], ◌∷◌, ◌++◌, length}
+use Rattle.std.specs.Prelude.{Bool, true, false, ◌||◌, Some, IsTrue, Contains, MatchOption, ⊤}
 use Rattle.std.specs.Prelude.{count_by, if◌then◌else◌}
 use Rattle.std.specs.List.{AllByRecursion, list_any}
 use Rattle.kv_base.specs.Calls.{next_count}
@@ -141,11 +141,13 @@ pub record KeepsCauses (setting : Setting) (before : List Write) (runs : List Ra
       (all_writes before (pairs_in batches))) (pairs_in batches)
 
 -- of the pairs about keys that the worker owns: each refusal has its cause, at most so many tell of
--- one rise of the disk's count of faults, and at most so many are unsure
+-- one rise of the disk's count of faults, which rises by no more than tell of one, and at most so
+-- many are unsure
 pub record HasCauses (setting : Setting) (worker : ℕ) (before : List Write) (runs : List Range)
     (faults faults' : ℕ) (closed : Bool) (pairs : List Pair) : Type 0 where
   pub faulty : faults' < 2 ^ 64 - 1
       → count_faults (owned_pairs setting.workers worker pairs) ≤ most_tasks * (faults' - faults)
+  pub rose : faults' ≤ faults + count_faults (owned_pairs setting.workers worker pairs)
   pub unsure : count_unsure (owned_pairs setting.workers worker pairs) ≤ most_tasks
   pub closed_is : closed ≡ any_unsure (owned_pairs setting.workers worker pairs)
   pub closes : AllByRecursion (λ pair. pair.reply ≡ Closed

@@ -8,7 +8,7 @@ use Rattle.std.specs.Prelude.{is_some, IsSome, ◌||◌, option_to_list}
 use Rattle.std.proofs.lemmas.Bool.{false≢true}
 use Rattle.std.proofs.lemmas.List.{append-nil, length-set, get_or-set_same, get_or-set_other}
 use Rattle.std.proofs.lemmas.List.{get_or_past}
-use Rattle.kv_ring.specs.Ends.{SameRings}
+use Rattle.kv_ring.specs.Ends.{SameRings, places_to}
 use Rattle.kv_ring.specs.declared.ends.Ends.{Ends}
 use Rattle.kv_ring.specs.declared.message.Answer.{Answer}
 use Rattle.kv_ring.specs.declared.message.Ask.{Ask}
@@ -16,6 +16,7 @@ use Rattle.kv_session_party.specs.Exchanges.{Asks, AsksOne, Receives, ReceivesOn
 use Rattle.kv_session_party.specs.Exchanges.{message_for}
 use Rattle.kv_session_party.specs.Exchanges.{is_owed, part_behind_came}
 use Rattle.kv_session_party.specs.Links.{told_to, heard_from, coming_from, waiting_for}
+use Rattle.kv_session_party.specs.Links.{WaitsForPlaces}
 use Rattle.kv_session_party.specs.Parts.{part_of, tasks_out, part_out, no_part}
 use Rattle.kv_session_party.specs.Routes.{RoutesState}
 use Rattle.kv_session_party.specs.declared.links.Links.{Links}
@@ -48,6 +49,19 @@ by-last P last here there other lt = ⊎_elim
 pub not-last : (last other : ℕ) → last + 1 ≤ other → other ≢ last
 not-last last other le e = absurd (omega (arith, le, e))
 
+-- behind a message to one worker messages wait for places where they did before
+pub full-more : {F : Type 0} (now next : Links F) (worker : ℕ)
+    → (waiting_for next worker ≢ None → places_to next.ends worker ≡ 0)
+    → ((other : ℕ) → other ≢ worker → waiting_for next other ≡ waiting_for now other)
+    → ((other : ℕ) → other ≢ worker → places_to next.ends other ≡ places_to now.ends other)
+    → WaitsForPlaces now → WaitsForPlaces next
+full-more now next worker here waiting places full other waits = ⊎_elim
+    (λ (e : other ≡ worker). subst (λ w. places_to next.ends w ≡ 0) (sym e)
+    (here (subst (λ w. waiting_for next w ≢ None) e waits)))
+    (λ (ne : other ≢ worker). places other ne
+    ∙ full other (λ none. waits (waiting other ne ∙ none)))
+    (same_or_not other worker)
+
 module _ {F : Type 0} (seen : ℕ) (links : Links F) (routes : RoutesState) where
   -- the workers below this number were asked
   pub record AsksUpTo (now : Links F) (later : RoutesState) (worker : ℕ) : Type 0 where
@@ -58,6 +72,7 @@ module _ {F : Type 0} (seen : ℕ) (links : Links F) (routes : RoutesState) wher
     pub free : (other : ℕ) → other < worker → tasks_out (part_of routes.parts other) ≡ None
         → waiting_for now other ≡ None
     pub unused : (other : ℕ) → worker ≤ other → waiting_for now other ≡ None
+    pub full : WaitsForPlaces now
     pub parts : (other : ℕ) → other < worker
         → part_of later.parts other ≡ part_out (part_of routes.parts other)
     pub others : (other : ℕ) → worker ≤ other
@@ -73,6 +88,7 @@ module _ {F : Type 0} (seen : ℕ) (links : Links F) (routes : RoutesState) wher
     heard = λ other. refl;
     free = λ other lt. absurd (omega (arith, lt));
     unused = λ other le. free other;
+    full = λ other waits. absurd (waits (free other));
     parts = λ other lt. absurd (omega (arith, lt));
     others = λ other le. refl;
     places = refl;
@@ -109,6 +125,8 @@ module _ {F : Type 0} (seen : ℕ) (links : Links F) (routes : RoutesState) wher
             (λ other ne less none. (one.others other ne).1 ∙ u.free other less none);
         unused = λ other le. (one.others other (not-last worker other le)).1
             ∙ u.unused other (omega (arith, le));
+        full = full-more now next worker one.full (λ other ne. (one.others other ne).1)
+            (λ other ne. (one.others other ne).2) u.full;
         parts = by-last (λ w. part_of after.parts w ≡ part_out (part_of routes.parts w)) worker
             (ap (λ (ps : List Part). part_of ps worker) one.parts
             ∙ get_or-set_same later.parts worker out no_part lt ∙ ap part_out was)
@@ -142,6 +160,7 @@ module _ {F : Type 0} (seen : ℕ) (links : Links F) (routes : RoutesState) wher
         heard = u.heard;
         free = pick (λ w. tasks_out (part_of routes.parts w) ≡ None → waiting_for now w ≡ None)
             u.free (λ other le none. u.unused other le);
+        full = u.full;
         parts = pick (λ w. part_of later.parts w ≡ part_out (part_of routes.parts w)) u.parts
             (λ other le. u.others other le ∙ past other le
             ∙ ap part_out (sym (past other le)));
@@ -172,6 +191,7 @@ module _ {F : Type 0} (links : Links F) (routes : RoutesState) where
     pub none : (other : ℕ) → worker ≤ other → came other ≡ None
     pub told : (other : ℕ) → told_to now other ≡ told_to links other
     pub unsent : now.unsent ≡ links.unsent
+    pub free_places : (other : ℕ) → places_to now.ends other ≡ places_to links.ends other
     pub places : later.places ≡ routes.places
     pub size : length later.parts ≡ length routes.parts
     pub still : moved ≡ false → (other : ℕ) → came other ≡ None
@@ -186,6 +206,7 @@ module _ {F : Type 0} (links : Links F) (routes : RoutesState) where
     none = λ other le. refl;
     told = λ other. refl;
     unsent = refl;
+    free_places = λ other. refl;
     places = refl;
     size = refl;
     still = λ e other. refl;
@@ -275,6 +296,7 @@ module _ {F : Type 0} (links : Links F) (routes : RoutesState) where
             ∙ u.none other (omega (arith, le));
         told = λ other. one.told other ∙ u.told other;
         unsent = one.unsent ∙ u.unsent;
+        free_places = λ other. one.free_places other ∙ u.free_places other;
         places = one.places ∙ u.places;
         size = one.size ∙ u.size;
         still = λ e other.
@@ -330,6 +352,7 @@ module _ {F : Type 0} (links : Links F) (routes : RoutesState) where
         (before_or_not other worker);
     told = u.told;
     unsent = u.unsent;
+    free_places = u.free_places;
     places = u.places;
     size = u.size;
     still = u.still;

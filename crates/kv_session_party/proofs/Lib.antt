@@ -15,3 +15,4 @@ pub mod KeyedLemmas
 pub mod TakenLemmas
 pub mod AnsweredLemmas
 pub mod PartyLemmas
+pub mod CrossLemmas

@@ -6,17 +6,18 @@ use Rattle.std.proofs.Common.{cond}
 use Rattle.std.proofs.Common.{nat_eq, refl, sym, ap, ◌∙◌, subst, arith}
 use Rattle.std.specs.Prelude.{is_some, ◌||◌, option_to_list}
 use Rattle.std.proofs.lemmas.List.{append-nil, length-set, get_or-set_same, get_or-set_other}
-use Rattle.std.proofs.lemmas.List.{get_or_default, get_or_read}
-use Rattle.kv_ring.specs.Ends.{SameRings, sent_to, received_from, known_from, only_at}
+use Rattle.std.proofs.lemmas.List.{get_or_default, get_or_read, get_or_past}
+use Rattle.kv_ring.specs.Ends.{SameRings, sent_to, received_from, known_from, places_to, only_at}
 use Rattle.kv_ring.specs.declared.message.Answer.{Answer}
 use Rattle.kv_ring.specs.declared.message.Ask.{Ask}
 use Rattle.kv_ring.specs.declared.message.Ask.TheVariants as ask
 use Rattle.kv_session_party.specs.Links.{any_went, Pushes, told_to, heard_from, coming_from}
-use Rattle.kv_session_party.specs.Links.{waiting_for}
+use Rattle.kv_session_party.specs.Links.{waiting_for, WaitsForPlaces}
 use Rattle.kv_session_party.specs.Sending.{Sends, has_gone}
 use Rattle.kv_session_party.specs.declared.links.Links.{Links}
 use Rattle.kv_session_party.proofs.RouteLemmas.{eq_self, eq_not, same_or_not}
 use Rattle.kv_session_party.proofs.ExchangeLemmas.{by-last, not-last, rings-refl, rings-trans}
+use Rattle.kv_session_party.proofs.ExchangeLemmas.{before_or_not, full-more}
 
 or-later : (a b c : Bool) → (c || b) ≡ ((false || b) || c)
 or-later a true true = refl
@@ -68,6 +69,12 @@ module _ {F : Type 0} (links : Links F) where
     pub heard : (other : ℕ) → heard_from now other ≡ heard_from links other
     pub coming : (other : ℕ) → coming_from now other ≡ coming_from links other
     pub rest : (other : ℕ) → worker ≤ other → waiting_for now other ≡ waiting_for links other
+    pub full : (other : ℕ) → other < worker → waiting_for now other ≢ None
+        → places_to now.ends other ≡ 0
+    pub place : (other : ℕ) → other < worker → 0 < places_to links.ends other
+        → waiting_for now other ≡ None
+    pub places : (other : ℕ) → worker ≤ other
+        → places_to now.ends other ≡ places_to links.ends other
     pub size : length now.unsent.items ≡ length links.unsent.items
     pub moved_is : moved ≡ any_went links.unsent.items now.unsent.items
     pub rings : SameRings links.ends now.ends
@@ -79,6 +86,9 @@ module _ {F : Type 0} (links : Links F) where
     heard = λ other. refl;
     coming = λ other. refl;
     rest = λ other le. refl;
+    full = λ other lt. absurd (omega (arith, lt));
+    place = λ other lt. absurd (omega (arith, lt));
+    places = λ other le. refl;
     size = refl;
     moved_is = sym (went-none links.unsent.items);
     rings = rings-refl links.ends;
@@ -127,6 +137,16 @@ module _ {F : Type 0} (links : Links F) where
       coming = λ other. sends.known other ∙ u.coming other;
       rest = λ other le. there other (not-last worker other le)
           ∙ u.rest other (omega (arith, le));
+      full = by-last (λ w. waiting_for next w ≢ None → places_to next.ends w ≡ 0) worker
+          (λ waits. sends.full (λ none. waits (left-is ∙ none)))
+          (λ other ne less waits. sends.other_places other ne
+          ∙ u.full other less (λ none. waits (there other ne ∙ none)));
+      place = by-last (λ w. 0 < places_to links.ends w → waiting_for next w ≡ None) worker
+          (λ some. left-is ∙ sends.place (subst (λ n. 0 < n)
+          (sym (u.places worker (omega arith))) some))
+          (λ other ne less some. there other ne ∙ u.place other less some);
+      places = λ other le. sends.other_places other (not-last worker other le)
+          ∙ u.places other (omega (arith, le));
       size = ap length items ∙ length-set now.unsent.items worker left ∙ u.size;
       moved_is = ap (λ b. b || sent) u.moved_is
           ∙ ap (λ b. any_went links.unsent.items now.unsent.items || b) gone
@@ -136,10 +156,23 @@ module _ {F : Type 0} (links : Links F) where
       rings = rings-trans links.ends now.ends next.ends u.rings sends.rings;
     }
 
-  pub PushesUpTo-all : (now : Links F) (worker : ℕ) (moved : Bool) → PushesUpTo now worker moved
-      → Pushes links now
-  PushesUpTo-all now worker moved u =
-      record { told = u.told; free = u.free; heard = u.heard; coming = u.coming }
+  pub PushesUpTo-all : (now : Links F) (worker : ℕ) (moved : Bool)
+      → length links.unsent.items ≤ worker → PushesUpTo now worker moved → Pushes links now
+  PushesUpTo-all now worker moved all u =
+      let size = u.size in
+      let past : (other : ℕ) → worker ≤ other → waiting_for now other ≡ None =
+      λ other le. get_or_past now.unsent.items other None (omega (arith, all, le, size)) in
+      record {
+        told = u.told;
+        free = u.free;
+        full = λ other waits. ⊎_elim (λ (lt : other < worker). u.full other lt waits)
+            (λ (le : worker ≤ other). absurd (waits (past other le)))
+            (before_or_not other worker);
+        place = λ other some. ⊎_elim (λ (lt : other < worker). u.place other lt some)
+            (λ (le : worker ≤ other). past other le) (before_or_not other worker);
+        heard = u.heard;
+        coming = u.coming;
+      }
 
 -- ---- the end
 
@@ -150,6 +183,7 @@ module _ {F : Type 0} (links : Links F) where
         → told_to now other ≡ told_to links other ++ ask.Bye ∷ []
     pub untold : (other : ℕ) → worker ≤ other → told_to now other ≡ told_to links other
     pub unused : (other : ℕ) → worker ≤ other → waiting_for now other ≡ None
+    pub full : WaitsForPlaces now
     pub heard : (other : ℕ) → (heard_from now other ≡ heard_from links other)
         × (coming_from now other ≡ coming_from links other)
     pub rings : SameRings links.ends now.ends
@@ -159,6 +193,7 @@ module _ {F : Type 0} (links : Links F) where
     told = λ other lt. absurd (omega (arith, lt));
     untold = λ other le. refl;
     unused = λ other le. free other;
+    full = λ other waits. absurd (waits (free other));
     heard = λ other. (refl, refl);
     rings = rings-refl links.ends;
   }
@@ -167,10 +202,12 @@ module _ {F : Type 0} (links : Links F) where
       → ((other : ℕ) → told_to next other
       ≡ told_to now other ++ only_at worker other (ask.Bye ∷ []))
       → ((other : ℕ) → other ≢ worker → waiting_for next other ≡ waiting_for now other)
+      → (waiting_for next worker ≢ None → places_to next.ends worker ≡ 0)
+      → ((other : ℕ) → other ≢ worker → places_to next.ends other ≡ places_to now.ends other)
       → ((other : ℕ) → (heard_from next other ≡ heard_from now other)
       × (coming_from next other ≡ coming_from now other))
       → SameRings now.ends next.ends → ByesUpTo now worker → ByesUpTo next (worker + 1)
-  ByesUpTo-more now next worker told others heard rings u =
+  ByesUpTo-more now next worker told others here places heard rings u =
       let bye : List (Ask F) = ask.Bye ∷ [] in
       let there : (other : ℕ) → other ≢ worker → told_to next other ≡ told_to now other =
       λ other ne. told other
@@ -185,6 +222,7 @@ module _ {F : Type 0} (links : Links F) where
             ∙ u.untold other (omega (arith, le));
         unused = λ other le. others other (not-last worker other le)
             ∙ u.unused other (omega (arith, le));
+        full = full-more now next worker here others places u.full;
         heard = λ other.
             ((heard other).0 ∙ (u.heard other).0, (heard other).1 ∙ (u.heard other).1);
         rings = rings-trans links.ends now.ends next.ends u.rings rings;

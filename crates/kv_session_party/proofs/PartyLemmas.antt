@@ -23,7 +23,7 @@ use Rattle.kv_session.specs.declared.gathered.Gathered.TheVariants.{More, Ending
 use Rattle.kv_session.specs.declared.ending.Ending.{Ending}
 use Rattle.kv_parties.specs.Messages.{takes_message, Hears}
 use Rattle.kv_session_party.specs.Exchanges.{Asks, Receives, part_behind_came, is_owed}
-use Rattle.kv_session_party.specs.Links.{waiting_for, told_to}
+use Rattle.kv_session_party.specs.Links.{waiting_for, told_to, WaitsForPlaces}
 use Rattle.kv_session_party.specs.Party.{WaitsAway, ends_reading}
 use Rattle.kv_session_party.specs.Promise.{Tells, HasCourse, IsServed}
 use Rattle.kv_session_party.specs.Parts.{is_bare, is_away, part_of, part_out}
@@ -129,6 +129,12 @@ away-received links new routes after moved r away worker here =
     ap is_some same
     ∙ received-free (part_of routes.parts worker) (part_of after.parts worker) (r.came worker)
     (waiting_for links worker) ((r.each worker).part_is) ((r.each worker).unasked) (away worker) here
+
+-- behind answers that came messages wait for places where they did before
+pub full-received : {F : Type 0} (links new : Links F) (routes after : RoutesState) (moved : Bool)
+    → Receives links new routes after moved → WaitsForPlaces links → WaitsForPlaces new
+full-received links new routes after moved r full worker waits = r.free_places worker
+    ∙ full worker (λ none. waits (ap (λ ws. get_or ws.items worker None) r.unsent ∙ none))
 
 -- what was told stays where nothing was sent and what waits stays
 pub told-same : {F : Type 0} (links new : Links F)

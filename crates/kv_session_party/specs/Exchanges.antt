@@ -4,12 +4,13 @@ use Rattle.std.specs.Prelude.{Some, Bool}
 use Rattle.std.specs.Prelude.{true, false, is_some, not, ◌&&◌, IsSome, option_to_list}
 use Rattle.std.specs.List.{AllByRecursion}
 use Rattle.kv_base.specs.Reserved.{Reserved}
-use Rattle.kv_ring.specs.Ends.{SameRings}
+use Rattle.kv_ring.specs.Ends.{SameRings, places_to}
 use Rattle.kv_ring.specs.declared.message.Answer.{Answer}
 use Rattle.kv_ring.specs.declared.message.Ask.{Ask}
 use Rattle.kv_ring.specs.declared.message.Ask.TheVariants as ask
 use Rattle.kv_ring.specs.declared.task.Task.{Task}
 use Rattle.kv_session_party.specs.Links.{told_to, heard_from, coming_from, waiting_for}
+use Rattle.kv_session_party.specs.Links.{WaitsForPlaces}
 use Rattle.kv_parties.specs.Messages.{IsReplied}
 use Rattle.kv_session_party.specs.Parts.{part_of, tasks_out, part_out, tasks_here}
 use Rattle.kv_session_party.specs.Routes.{RoutesState}
@@ -30,6 +31,7 @@ module _ {F : Type 0} where
     pub heard : (worker : ℕ) → heard_from new worker ≡ heard_from links worker
     pub free : (worker : ℕ) → tasks_out (part_of routes.parts worker) ≡ None
         → waiting_for new worker ≡ None
+    pub full : WaitsForPlaces new
     pub parts : (worker : ℕ) → part_of after.parts worker ≡ part_out (part_of routes.parts worker)
     pub places : after.places ≡ routes.places
     pub size : length after.parts ≡ length routes.parts
@@ -41,8 +43,10 @@ module _ {F : Type 0} where
     pub told : told_to new worker
         ≡ told_to links worker ++ message_for seen (tasks_out (part_of routes.parts worker))
     pub free : tasks_out (part_of routes.parts worker) ≡ None → waiting_for new worker ≡ None
+    pub full : waiting_for new worker ≢ None → places_to new.ends worker ≡ 0
     pub others : (other : ℕ) → other ≢ worker → (told_to new other ≡ told_to links other)
         × (waiting_for new other ≡ waiting_for links other)
+        × (places_to new.ends other ≡ places_to links.ends other)
     pub heard : (other : ℕ) → heard_from new other ≡ heard_from links other
     pub parts : after.parts
         ≡ slice_set routes.parts worker (part_out (part_of routes.parts worker))
@@ -78,6 +82,7 @@ module _ {F : Type 0} where
         (heard_from links worker) (heard_from new worker) (coming_from new worker)
     pub told : (worker : ℕ) → told_to new worker ≡ told_to links worker
     pub unsent : new.unsent ≡ links.unsent
+    pub free_places : (worker : ℕ) → places_to new.ends worker ≡ places_to links.ends worker
     pub places : after.places ≡ routes.places
     pub size : length after.parts ≡ length routes.parts
     pub still : moved ≡ false → (worker : ℕ) → came worker ≡ None
@@ -96,6 +101,7 @@ module _ {F : Type 0} where
         × (part_of after.parts other ≡ part_of routes.parts other)
     pub told : (other : ℕ) → told_to new other ≡ told_to links other
     pub unsent : new.unsent ≡ links.unsent
+    pub free_places : (other : ℕ) → places_to new.ends other ≡ places_to links.ends other
     pub places : after.places ≡ routes.places
     pub size : length after.parts ≡ length routes.parts
     pub moved_is : moved ≡ is_some came

@@ -1,7 +1,8 @@
 -- What goes through the rings between a session and the workers.
-use Rattle.std.specs.Prelude.{◌≡◌, ℕ, List, [], ◌∷◌, ◌++◌, Option, None, Bool, false, is_some, ◌||◌}
+use Rattle.std.specs.Prelude.{◌≡◌, ◌≢◌, ℕ, ◌<◌, List, [], ◌∷◌, ◌++◌, Option, None, Bool, false}
+use Rattle.std.specs.Prelude.{is_some, ◌||◌}
 use Rattle.std.specs.Prelude.{option_to_list, slice_index_or}
-use Rattle.kv_ring.specs.Ends.{sent_to, received_from, known_from}
+use Rattle.kv_ring.specs.Ends.{sent_to, received_from, known_from, places_to}
 use Rattle.kv_ring.specs.declared.message.Answer.{Answer}
 use Rattle.kv_ring.specs.declared.message.Ask.{Ask}
 use Rattle.kv_session_party.specs.Sending.{has_gone}
@@ -36,9 +37,17 @@ module _ {F : Type 0} where
   any_went (unsent ∷ others) (left ∷ later) = has_gone unsent left
       || any_went others later
 
-  -- the message that waited for this worker went out, or waits on, and nothing else changed
+  -- a message waits only where this end knows of no place in its ring
+  abbrev pub WaitsForPlaces : Links F → Type 0
+  WaitsForPlaces links = (worker : ℕ) → waiting_for links worker ≢ None
+      → places_to links.ends worker ≡ 0
+
+  -- each message that waited went out where a place was known, or waits on where none is, and
+  -- nothing else changed
   pub record Pushes (links new : Links F) : Type 0 where
     pub told : (worker : ℕ) → told_to new worker ≡ told_to links worker
     pub free : (worker : ℕ) → waiting_for links worker ≡ None → waiting_for new worker ≡ None
+    pub full : WaitsForPlaces new
+    pub place : (worker : ℕ) → 0 < places_to links.ends worker → waiting_for new worker ≡ None
     pub heard : (worker : ℕ) → heard_from new worker ≡ heard_from links worker
     pub coming : (worker : ℕ) → coming_from new worker ≡ coming_from links worker

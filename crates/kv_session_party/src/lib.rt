@@ -3,6 +3,7 @@
 
 mod exchange;
 mod greatest;
+mod laws;
 mod links;
 mod part;
 mod party;
@@ -10,4 +11,5 @@ mod reply;
 mod routes;
 mod send;
 
+pub use laws::session_parties_cross_threads;
 pub use party::{PartyParts, SessionParty};

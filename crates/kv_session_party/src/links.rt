@@ -19,10 +19,10 @@ impl<F: Drop> Links<F> {
     ghost use Rattle.std.specs.Prelude.{◌≡◌, ◌≢◌, ℕ, ◌<◌, ◌+◌, [], ◌∷◌, ◌++◌, None, IfOk, IfErr};
     ghost use Rattle.std.specs.Prelude.{is_some, option_to_list};
     ghost use Rattle.kv_ring.specs.Comparing.{Compares};
-    ghost use Rattle.kv_ring.specs.Ends.{peers, SameRings, only_at, AreBetween};
+    ghost use Rattle.kv_ring.specs.Ends.{peers, SameRings, only_at, AreBetween, places_to};
     ghost use Rattle.kv_ring.specs.declared.message.Ask.TheVariants as ask;
     ghost use Rattle.kv_session_party.specs.Links.{told_to, heard_from, coming_from, waiting_for};
-    ghost use Rattle.kv_session_party.specs.Links.{Pushes, any_waits, any_went};
+    ghost use Rattle.kv_session_party.specs.Links.{Pushes, WaitsForPlaces, any_waits, any_went};
 
     /// Nothing waits. Want of memory hands the ends back.
     pub fn new(alloc: Global, ends: SessionEnds<F>) -> Result<Links<F>, (SessionEnds<F>, NoMemory)>
@@ -51,6 +51,10 @@ impl<F: Drop> Links<F> {
             ≡ told_to self.old other ++ only_at worker other (message ∷ []) }
         ensures others { (other : ℕ) → other ≢ worker
             → waiting_for self.new other ≡ waiting_for self.old other }
+        ensures full { waiting_for self.new worker ≢ None
+            → places_to self.new.ends worker ≡ 0 }
+        ensures places { (other : ℕ) → other ≢ worker → places_to self.new.ends other
+            ≡ places_to self.old.ends other }
         ensures heard { (other : ℕ) → (heard_from self.new other ≡ heard_from self.old other)
             × (coming_from self.new other ≡ coming_from self.old other) }
         ensures rings { SameRings self.old.ends self.new.ends }
@@ -103,6 +107,8 @@ impl<F: Drop> Links<F> {
             → coming_from self.new other ≡ coming_from self.old other }
         ensures told { (other : ℕ) → told_to self.new other ≡ told_to self.old other }
         ensures unsent { self.new.unsent ≡ self.old.unsent }
+        ensures places { (other : ℕ) → places_to self.new.ends other
+            ≡ places_to self.old.ends other }
         ensures rings { SameRings self.old.ends self.new.ends }
     {
         self.ends.pop(worker)
@@ -115,6 +121,7 @@ impl<F: Drop> Links<F> {
             → told_to self.new worker ≡ told_to self.old worker ++ ask.Bye ∷ [] }
         ensures heard { (worker : ℕ) → (heard_from self.new worker ≡ heard_from self.old worker)
             × (coming_from self.new worker ≡ coming_from self.old worker) }
+        ensures full { WaitsForPlaces self.new }
         ensures rings { SameRings self.old.ends self.new.ends }
     {
         for worker in 0..self.ends.peers() {

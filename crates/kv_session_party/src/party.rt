@@ -82,8 +82,9 @@ impl<So: Source + Drop, Si: Sink + Drop, F: Drop> SessionParty<So, Si, F> {
     ghost use Rattle.kv_session.specs.Session.{KeepsReading};
     ghost use Rattle.kv_session_party.specs.Exchanges.{Receives};
     ghost use Rattle.kv_session_party.specs.Links.{waiting_for, heard_from, coming_from};
+    ghost use Rattle.kv_session_party.specs.Links.{WaitsForPlaces};
     ghost use Rattle.kv_session_party.specs.Party.{is_over, TurnsWaiting, TurnsReading, WaitsFor};
-    ghost use Rattle.kv_session_party.specs.Parts.{all_here};
+    ghost use Rattle.kv_session_party.specs.Parts.{all_here, is_away, part_of};
     ghost use Rattle.kv_stamps.specs.Steps.{Raises, Looks};
 
     /// A session that took no byte so far, with fresh ends. Takes the buffers for its frames and
@@ -146,20 +147,41 @@ impl<So: Source + Drop, Si: Sink + Drop, F: Drop> SessionParty<So, Si, F> {
         ensures reads { self.old.waiting ≡ false → self.old.session.ending ≡ None
             → TurnsReading self.old.session self.new.session × (result ≢ turn.Idle) }
         ensures rests { self.old.session.ending ≢ None → self.new.session ≡ self.old.session }
+
+        // A message waits behind it only where its ring was full, as far as this end knew.
+        ensures full { WaitsForPlaces self.new.links }
         ensures rings { SameRings self.old.links.ends self.new.links.ends }
         ensures seat { self.new.seat ≡ self.old.seat }
         ensures first { self.new.first.value ≡ self.old.first.value }
     {
         let pushed = self.links.push();
         let moved = self.go_on();
-        Turn::of(self.is_over(), either(pushed, moved))
+        Turn::of(self.ended(), either(pushed, moved))
     }
 
-    /// Whether the session has ended and no message waits.
-    fn is_over(&self) -> bool
-        ensures { result ≡ is_over self.now.session.ending self.now.links }
+    /// Whether the session has ended and no message waits: its turns do nothing more. No group is on
+    /// its way then, and the parts have how it ended.
+    pub fn ended(&self) -> bool
+        ensures value { result ≡ is_over self.now.session.ending self.now.links }
+        ensures rests { result ≡ true → self.now.waiting ≡ false }
+        ensures ending { result ≡ true → self.now.session.ending ≢ None }
     {
         self.over && !self.links.waits()
+    }
+
+    /// How many workers there are.
+    pub fn workers(&self) -> u32
+        ensures { result ≡ peers self.now.links.ends }
+    {
+        self.links.workers()
+    }
+
+    /// Whether the group that is on its way waits for this worker: its tasks are away.
+    pub fn is_asked(&self, worker: u32) -> bool
+        requires { worker < peers self.now.links.ends }
+        ensures { result ≡ is_away (part_of self.now.routes.parts worker) }
+    {
+        self.routes.is_away(worker)
     }
 
     /// Reads a group, or takes the answers that are owed. The answer is whether it did more than
@@ -170,6 +192,7 @@ impl<So: Source + Drop, Si: Sink + Drop, F: Drop> SessionParty<So, Si, F> {
         ensures reads { self.old.waiting ≡ false → self.old.over ≡ false
             → TurnsReading self.old.session self.new.session × (result ≡ true) }
         ensures rests { self.old.over ≡ true → self.new.session ≡ self.old.session }
+        ensures full { WaitsForPlaces self.old.links → WaitsForPlaces self.new.links }
         ensures rings { SameRings self.old.links.ends self.new.links.ends }
         ensures seat { self.new.seat ≡ self.old.seat }
         ensures first { self.new.first.value ≡ self.old.first.value }
@@ -189,6 +212,7 @@ impl<So: Source + Drop, Si: Sink + Drop, F: Drop> SessionParty<So, Si, F> {
         requires goes_on { self.old.over ≡ false }
         requires reads { self.old.waiting ≡ false }
         ensures reads { TurnsReading self.old.session self.new.session }
+        ensures full { WaitsForPlaces self.new.links }
         ensures rings { SameRings self.old.links.ends self.new.links.ends }
         ensures seat { self.new.seat ≡ self.old.seat }
         ensures first { self.new.first.value ≡ self.old.first.value }
@@ -204,6 +228,7 @@ impl<So: Source + Drop, Si: Sink + Drop, F: Drop> SessionParty<So, Si, F> {
         ensures reads { TurnsReading self.old.session self.new.session }
         ensures goes_on { self.new.over ≡ false }
         ensures waits { self.new.waiting ≡ true }
+        ensures full { WaitsForPlaces self.new.links }
         ensures rings { SameRings self.old.links.ends self.new.links.ends }
         ensures seat { self.new.seat ≡ self.old.seat }
         ensures first { self.new.first.value ≡ self.old.first.value }
@@ -222,6 +247,7 @@ impl<So: Source + Drop, Si: Sink + Drop, F: Drop> SessionParty<So, Si, F> {
         requires waits { self.old.waiting ≡ true }
         ensures waits { WaitsFor self.old.links self.new.links self.old.routes self.new.waiting
             result }
+        ensures full { WaitsForPlaces self.old.links → WaitsForPlaces self.new.links }
         ensures rings { SameRings self.old.links.ends self.new.links.ends }
         ensures seat { self.new.seat ≡ self.old.seat }
         ensures first { self.new.first.value ≡ self.old.first.value }
@@ -239,6 +265,7 @@ impl<So: Source + Drop, Si: Sink + Drop, F: Drop> SessionParty<So, Si, F> {
             result }
         ensures goes_on { self.new.over ≡ false }
         ensures waits { self.new.waiting ≡ true }
+        ensures full { WaitsForPlaces self.old.links → WaitsForPlaces self.new.links }
         ensures seat { self.new.seat ≡ self.old.seat }
         ensures first { self.new.first.value ≡ self.old.first.value }
     {
@@ -251,6 +278,7 @@ impl<So: Source + Drop, Si: Sink + Drop, F: Drop> SessionParty<So, Si, F> {
         requires waits { self.old.waiting ≡ true }
         ensures waits { self.new.waiting ≡ not (all_here self.old.routes.parts) }
         ensures reading { KeepsReading self.old.session self.new.session }
+        ensures full { WaitsForPlaces self.old.links → WaitsForPlaces self.new.links }
         ensures heard { (worker : ℕ)
             → (heard_from self.new.links worker ≡ heard_from self.old.links worker)
             × (coming_from self.new.links worker ≡ coming_from self.old.links worker) }
@@ -290,6 +318,7 @@ impl<So: Source + Drop, Si: Sink + Drop, F: Drop> SessionParty<So, Si, F> {
         requires free { (worker : ℕ) → waiting_for self.old.links worker ≡ None }
         ensures session { self.new.session ≡ self.old.session }
         ensures waits { self.new.waiting ≡ self.old.waiting }
+        ensures full { WaitsForPlaces self.old.links → WaitsForPlaces self.new.links }
         ensures heard { (worker : ℕ)
             → (heard_from self.new.links worker ≡ heard_from self.old.links worker)
             × (coming_from self.new.links worker ≡ coming_from self.old.links worker) }

@@ -1,7 +1,7 @@
 -- What causes the replies of one batch, and those of all batches with one more.
-use Rattle.std.proofs.Common.{◌≡◌, ◌≢◌, ◌⊎◌, inl, inr, ℕ, ◌+◌, ◌-◌, ◌≤◌, List, [], ◌∷◌, ◌++◌, map, length}
-use Rattle.std.proofs.Common.{Option, Some, None, Bool, true, false, cond, ◌||◌, refl, sym, ap, subst}
-use Rattle.std.proofs.Common.{subst₂, ◌∙◌, arith, append-nil, IsTrue, true≢false}
+use Rattle.std.proofs.Common.{◌≡◌, ◌≢◌, ◌⊎◌, inl, inr, ℕ, ◌-◌, ◌≤◌, List, [], ◌∷◌, ◌++◌, map, length}
+use Rattle.std.proofs.Common.{Some, None, Bool, true, false, cond, ◌||◌, refl, sym, ap, subst}
+use Rattle.std.proofs.Common.{◌∙◌, arith, append-nil, IsTrue}
 use Rattle.std.specs.List.{AllByRecursion}
 use Rattle.std.proofs.lemmas.List.Concat.{flat_map-append}
 use Rattle.kv_base.specs.Calls.{next_count}
@@ -16,7 +16,7 @@ use Rattle.kv_model.specs.BatchLaws.{pairs_of}
 use Rattle.kv_model.specs.History.{Write}
 use Rattle.kv_model.specs.Items.{FollowsHistory}
 use Rattle.kv_model.specs.Layout.{all_classes}
-use Rattle.kv_model.specs.Pairs.{Pair, pairs_in, writes, unsure_writes, acknowledged_by}
+use Rattle.kv_model.specs.Pairs.{Pair, pairs_in, writes, acknowledged_by}
 use Rattle.kv_parties.specs.Causes.{is_unsure, is_fault, any_unsure, any_fault, faults_behind}
 use Rattle.kv_parties.specs.Causes.{IsClosedAt, AreClosedBehind, IsSpentAt, KeepsCauses, all_writes}
 use Rattle.kv_parties.specs.Causes.{IsFullAt}
@@ -29,10 +29,10 @@ use Rattle.kv_stamps.specs.declared.view.View.{View}
 use Rattle.kv_worker.specs.Steps.{IsDone, IsRefused, HasRefusal, HasFailed}
 use Rattle.kv_worker.specs.Worker.{WorkerView, start_of}
 use Rattle.kv_worker_party.specs.Laws.{PartyLaws}
-use Rattle.kv_worker_party.specs.Serving.{HasDrawn, HasMet, IsIdle, IsClosed, IsSpent, IsStepped, HasServed}
+use Rattle.kv_worker_party.specs.Serving.{HasDrawn, HasMet, IsStepped, HasServed}
 use Rattle.kv_worker_party.proofs.CauseLemmas.{AreFull, done-causes, failed-full, const-causes, group-full}
-use Rattle.kv_worker_party.proofs.FullLemmas.{full_of, HasCause}
-use Rattle.kv_worker_party.proofs.ReplyLemmas.{any_reply, any-none, any_unsure-is, any_fault-is, pairs-all}
+use Rattle.kv_worker_party.proofs.FullLemmas.{full_of}
+use Rattle.kv_worker_party.proofs.ReplyLemmas.{any-none, any_unsure-is, any_fault-is, pairs-all}
 use Rattle.kv_worker_party.proofs.ReplyLemmas.{IsCalm, calm-no_fault, calm-sure, calm-served, calm-replies}
 use Rattle.kv_worker_party.proofs.ReplyLemmas.{calm-answers, IsServed, served-open, served-stamped}
 use Rattle.kv_worker_party.proofs.ReplyLemmas.{served-replies, unsure-fault, failed-unsure}

@@ -1,5 +1,5 @@
 -- Each Full of a worker's batches has its cause.
-use Rattle.std.proofs.Common.{◌≡◌, ◌≢◌, ◌⊎◌, inl, inr, ℕ, ◌+◌, ◌-◌, List, [], ◌∷◌, ◌++◌, map, Option}
+use Rattle.std.proofs.Common.{◌≡◌, ◌⊎◌, inl, inr, ℕ, ◌+◌, ◌-◌, List, [], ◌∷◌, ◌++◌, map, Option}
 use Rattle.std.proofs.Common.{Some, None, Bool, refl, sym, ap, subst, ◌∙◌, IsTrue, true≢false, is_some}
 use Rattle.std.proofs.Common.{Contains, option_to_list}
 use Rattle.std.specs.List.{AllByRecursion}

@@ -1,10 +1,10 @@
 -- What a batch draws, passes over and meets of the counter's numbers.
-use Rattle.std.proofs.Common.{◌≡◌, ◌⊎◌, inl, inr, ⊎_elim, ℕ, zero, suc, ◌+◌, ◌-◌, ◌^◌, ◌<◌, ◌≤◌, max, List}
+use Rattle.std.proofs.Common.{◌≡◌, ◌⊎◌, inl, inr, ℕ, zero, suc, ◌+◌, ◌-◌, ◌<◌, ◌≤◌, max, List}
 use Rattle.std.proofs.Common.{[], ◌∷◌, ◌++◌, map, length, Option, Some, None, Bool, true, false, cond}
-use Rattle.std.proofs.Common.{refl, sym, ap, subst, ◌∙◌, arith, append-nil, All, Contains, get_or}
-use Rattle.std.specs.Prelude.{nat_lt, sum_by}
+use Rattle.std.proofs.Common.{refl, sym, ap, subst, ◌∙◌, arith, append-nil, All, Contains}
+use Rattle.std.specs.Prelude.{nat_lt}
 use Rattle.std.proofs.lemmas.Bool.Decides.{nat_tests}
-use Rattle.std.proofs.lemmas.List.Elements.{All-append, Contains-append_left, Contains-append_right}
+use Rattle.std.proofs.lemmas.List.Elements.{All-append}
 use Rattle.std.proofs.lemmas.List.Sums.{sum_by_push}
 use Rattle.kv_base.specs.Reserved.{Reserved}
 use Rattle.kv_base.specs.declared.reply.Reply.{Reply}
@@ -23,7 +23,7 @@ use Rattle.kv_stamps.specs.declared.view.View.{View}
 use Rattle.kv_groups.specs.Batched.{in_hand, of_session}
 use Rattle.kv_groups.specs.Gathering.{Intake, intake_of, taken_by, greatest}
 use Rattle.kv_worker.specs.Worker.{WorkerView}
-use Rattle.kv_worker_party.specs.Serving.{HasDrawn, HasMet, IsStepped, HasServed}
+use Rattle.kv_worker_party.specs.Serving.{HasDrawn, HasMet, HasServed}
 use Rattle.kv_worker_party.specs.Turns.{asked_seen, asked_seens, asked_tasks}
 
 -- a gap that ends behind what was seen

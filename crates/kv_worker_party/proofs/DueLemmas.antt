@@ -12,7 +12,7 @@ use Rattle.kv_parties.specs.Setting.{owns}
 use Rattle.kv_ring.specs.declared.message.Ask.{Ask}
 use Rattle.kv_ring.specs.declared.message.Ask.TheVariants as ask
 use Rattle.kv_ring.specs.declared.task.Task.{Task}
-use Rattle.kv_groups.specs.Taking.{owns_key, takes_each, takes_all, takes_group, group_taken}
+use Rattle.kv_groups.specs.Taking.{owns_key, takes_each, takes_group, group_taken}
 
 same-owns : (workers worker : ℕ) (key : Option (List ℕ))
     → owns workers worker key ≡ owns_key workers worker key

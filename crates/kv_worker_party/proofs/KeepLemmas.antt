@@ -1,7 +1,7 @@
 -- What a worker, its seat and its history keep, with one batch more.
-use Rattle.std.proofs.Common.{◌≡◌, ◌≢◌, ◌⊎◌, inl, inr, ℕ, ◌+◌, ◌-◌, ◌^◌, ◌<◌, ◌≤◌, List, [], ◌∷◌}
-use Rattle.std.proofs.Common.{◌++◌, map, length, Bool, true, false, refl, sym, ap, subst, subst₂}
-use Rattle.std.proofs.Common.{◌∙◌, arith, append-nil, append_assoc, true≢false, None, MatchOption}
+use Rattle.std.proofs.Common.{◌≡◌, ◌⊎◌, inl, inr, ℕ, ◌+◌, ◌-◌, ◌<◌, ◌≤◌, List, [], ◌∷◌}
+use Rattle.std.proofs.Common.{◌++◌, map, length, false, refl, sym, ap, subst, subst₂}
+use Rattle.std.proofs.Common.{◌∙◌, arith, append-nil, append_assoc, true≢false}
 use Rattle.std.specs.List.{AllByRecursion}
 use Rattle.std.proofs.lemmas.Bool.Decides.{nat_tests}
 use Rattle.std.proofs.lemmas.List.Elements.{filter_map-append}
@@ -32,7 +32,7 @@ use Rattle.kv_stamps.specs.declared.view.Range.{Range}
 use Rattle.kv_stamps.specs.declared.view.View.{View}
 use Rattle.kv_worker_party.specs.Laws.{PartyLaws}
 use Rattle.kv_worker_party.specs.Party.{LeavesEach}
-use Rattle.kv_worker_party.specs.Serving.{IsIdle, IsClosed, IsSpent, IsStepped, HasServed}
+use Rattle.kv_worker_party.specs.Serving.{IsStepped, HasServed}
 use Rattle.kv_worker.specs.Steps.{IsDone, IsRefused, HasRefusal, HasFailed, Continues, Steps}
 use Rattle.kv_worker.specs.Worker.{WorkerView, start_of}
 use Rattle.kv_worker_party.proofs.SeatLemmas.{Grew, Stayed, drawn-grew, met-stayed, stayed}
@@ -564,6 +564,130 @@ module _ {D I : Type 0} (laws : PartyLaws) (d : disks.Ghosts D) (i : indexes.Gho
       by (inr (inr (inl spent))) = quiet (StampsSpent spent.number)
           (spent-may d.tells spent.number) spent.replies_are spent.worker
           (met-stayed seen (length requests) spent.number view later spent.met)
+      by (inr (inr (inr stepped))) = outcome stepped stepped.steps.outcome
+
+  -- an image that recovered a prefix of what was answered does so with a batch more that has stamps
+  -- from the base on
+  stays-more : (old : WorkerView D I) (view : View) (group : List Pair) (base : ℕ)
+      (acks : List Write) (image : Image)
+      → Keeps d i start sessions first old view before pairs → unsure_writes pairs ≡ []
+      → view.seen ≤ base → AllByRecursion (λ write. base ≤ write.stamp) (writes group)
+      → AllByRecursion (λ write. base ≤ write.stamp) (unsure_writes group)
+      → AllByRecursion (λ write. write.stamp < view.seen) acks
+      → RecoversPrefix all_classes (before ++ writes pairs ++ unsure_writes pairs) acks image
+      first.store.worker first.store.workers
+      → RecoversPrefix all_classes (before ++ writes (pairs ++ group)
+      ++ unsure_writes (pairs ++ group)) acks image first.store.worker first.store.workers
+  stays-more old view group base acks image keeps sure up above more acked was =
+      let worker : ℕ = first.store.worker in
+      let workers : ℕ = first.store.workers in
+      let history : List Write = before ++ writes pairs in
+      let lower : (ws : List Write) → AllByRecursion (λ write. write.stamp < view.seen) ws
+      → AllByRecursion (λ write. write.stamp < base) ws = λ ws low.
+      All-map (λ write. write.stamp < view.seen) (λ write. write.stamp < base) ws
+      (λ write lt. omega (arith, lt, up)) low in
+      let below : AllByRecursion (λ write. write.stamp < base) (writes pairs) =
+      writes-all (λ stamp. stamp < base) pairs (has-weaker (λ stamp. stamp < view.seen)
+      (λ stamp. stamp < base) (λ stamp lt. omega (arith, lt, up)) pairs keeps.below) in
+      subst (λ w. RecoversPrefix all_classes w acks image worker workers)
+      (sym (all-more before pairs group sure))
+      (subst (λ w. RecoversPrefix all_classes w acks image worker workers)
+      (sym (append_assoc history (writes group) (unsure_writes group)))
+      (laws.prefixes.longer all_classes history (writes group ++ unsure_writes group) acks base
+      image worker workers
+      (subst (λ w. RecoversPrefix all_classes w acks image worker workers)
+      (ap (λ w. history ++ w) sure ∙ append-nil history) was)
+      (omega (arith, keeps.above.0, keeps.above.1, up))
+      (All-append (λ write. write.stamp < base) before (writes pairs) (lower before keeps.earlier)
+      below)
+      (lower acks acked)
+      (All-append (λ write. base ≤ write.stamp) (writes group) (unsure_writes group) above more)))
+
+  -- so it does with a batch of any outcome
+  pub served-stays : (old now : WorkerView D I) (seen : ℕ) (view later : View)
+      (requests : List Request) (replies : List Reply)
+      → Keeps d i start sessions first old view before pairs
+      → AllByRecursion (IsTask all_classes) requests
+      → HasServed d i old now view later seen requests replies → (acks : List Write)
+      → AllByRecursion (λ write. write.stamp < view.seen) acks → (image : Image)
+      → RecoversPrefix all_classes (before ++ writes pairs ++ unsure_writes pairs) acks image
+      first.store.worker first.store.workers
+      → RecoversPrefix all_classes (before ++ writes (pairs ++ pairs_of requests replies)
+      ++ unsure_writes (pairs ++ pairs_of requests replies)) acks image first.store.worker
+      first.store.workers
+  served-stays old now seen view later requests replies keeps good served acks acked image was =
+      by served
+    where
+      quiet : (reply : Reply) → MayRefuse d.tells reply → replies ≡ map (λ _. reply) requests
+          → RecoversPrefix all_classes (before ++ writes (pairs ++ pairs_of requests replies)
+          ++ unsure_writes (pairs ++ pairs_of requests replies)) acks image first.store.worker
+          first.store.workers
+      quiet reply may is =
+          let silent = silent-batch d.tells reply requests replies may good is in
+          let same = silent-same (pairs_of requests replies) silent in
+          let Q : List Write → List Write → Type 0 = λ w u. RecoversPrefix all_classes
+          (before ++ w ++ u) acks image first.store.worker first.store.workers in
+          subst₂ Q (sym same.0) (sym same.1) was
+
+      refused_by : (reply : Reply)
+          → HasRefusal reply (d.faults old.store.disk.disk) (d.faults now.store.disk.disk)
+          → replies ≡ map (λ _. reply) requests
+          → RecoversPrefix all_classes (before ++ writes (pairs ++ pairs_of requests replies)
+          ++ unsure_writes (pairs ++ pairs_of requests replies)) acks image first.store.worker
+          first.store.workers
+      refused_by reply (inl why) is = quiet NoMemory (no_memory-may d.tells)
+          (is ∙ ap (λ (r : Reply). map (λ (q : Request). r) requests) why.0)
+      refused_by reply (inr why) is = quiet DiskFault (disk_fault-may d.tells)
+          (is ∙ ap (λ (r : Reply). map (λ (q : Request). r) requests) why.0)
+
+      outcome : (s : IsStepped d i old now view later seen requests replies)
+          → IsDone d i old.store now.store requests s.base replies
+          ⊎ (IsRefused d i old.store now.store requests replies
+          ⊎ HasFailed d i old.store now.store requests s.base replies)
+          → RecoversPrefix all_classes (before ++ writes (pairs ++ pairs_of requests replies)
+          ++ unsure_writes (pairs ++ pairs_of requests replies)) acks image first.store.worker
+          first.store.workers
+      outcome s (inl done) =
+          let begin : Start = start_of d i old.store in
+          let plain : List Reply = answers begin [] s.base requests in
+          let grew = drawn-grew seen (length requests) s.base view later s.drawn in
+          let sure : unsure_writes (pairs_of requests replies) ≡ [] =
+          written-told unsure_by d.tells (unsure-told d.tells) requests replies plain
+          done.replies_are ∙ laws.failed.sure begin s.base requests in
+          let stamped : AreStamped s.base replies =
+          stamped-told d.tells replies plain s.base done.replies_are
+          (laws.stamps begin s.base requests).1 in
+          stays-more old view (pairs_of requests replies) s.base acks image keeps
+          (keeps.sure s.open_) grew.from
+          (writes-all (λ stamp. s.base ≤ stamp) (pairs_of requests replies)
+          (stamped-from s.base requests replies stamped))
+          (subst (AllByRecursion (λ write. s.base ≤ write.stamp)) (sym sure) tt) acked was
+      outcome s (inr (inl refused)) = refused_by refused.reply refused.cause refused.replies_are
+      outcome s (inr (inr failed)) =
+          let begin : Start = start_of d i old.store in
+          let plain : List Reply = answers begin [] s.base requests in
+          let grew = drawn-grew seen (length requests) s.base view later s.drawn in
+          let nothing : writes (pairs_of requests replies) ≡ [] =
+          ap (λ rs. writes (pairs_of requests rs)) failed.replies_are
+          ∙ laws.failed.unacknowledged begin s.base requests in
+          let stamped : AreStamped s.base replies = subst (AreStamped s.base)
+          (sym failed.replies_are)
+          (AreStamped-failed requests plain s.base (laws.stamps begin s.base requests).1) in
+          stays-more old view (pairs_of requests replies) s.base acks image keeps
+          (keeps.sure s.open_) grew.from
+          (subst (AllByRecursion (λ write. s.base ≤ write.stamp)) (sym nothing) tt)
+          (unsure-all (λ stamp. s.base ≤ stamp) (pairs_of requests replies)
+          (stamped-from s.base requests replies stamped)) acked was
+
+      by : HasServed d i old now view later seen requests replies
+          → RecoversPrefix all_classes (before ++ writes (pairs ++ pairs_of requests replies)
+          ++ unsure_writes (pairs ++ pairs_of requests replies)) acks image first.store.worker
+          first.store.workers
+      by (inl idle) = quiet NoMemory (no_memory-may d.tells)
+          (idle.replies_are ∙ sym (ap (map (λ (r : Request). NoMemory)) idle.none))
+      by (inr (inl closed)) = quiet Closed (closed-may d.tells) closed.replies_are
+      by (inr (inr (inl spent))) = quiet (StampsSpent spent.number)
+          (spent-may d.tells spent.number) spent.replies_are
       by (inr (inr (inr stepped))) = outcome stepped stepped.steps.outcome
 
   -- at each moment of a batch a crash leaves a prefix that holds all that was answered before it

@@ -15,3 +15,4 @@ pub mod KeepLemmas
 pub mod TurnLemmas
 pub mod PartyLemmas
 pub mod DueLemmas
+pub mod CrossLemmas

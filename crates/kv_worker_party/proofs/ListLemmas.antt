@@ -1,5 +1,5 @@
 -- Lemmas on lists and options.
-use Rattle.std.proofs.Common.{◌≡◌, List, [], ◌∷◌, filter, length, Option, Some, None, Bool, true}
+use Rattle.std.proofs.Common.{◌≡◌, List, [], ◌∷◌, filter, length, Some, None, Bool, true}
 use Rattle.std.proofs.Common.{false, cond, refl, ap, arith}
 use Rattle.std.specs.List.{AllByRecursion}
 

@@ -1,5 +1,5 @@
 -- The tasks that a worker takes may be those of a batch.
-use Rattle.std.proofs.Common.{◌≡◌, ℕ, ◌+◌, List, [], ◌∷◌, length, Option, None, Some, Bool, true, false}
+use Rattle.std.proofs.Common.{◌≡◌, ℕ, List, [], ◌∷◌, length, Option, None, Some, true}
 use Rattle.std.proofs.Common.{not, ◌&&◌, is_some, IsSome, IfSome, refl, sym, arith, true≢false}
 use Rattle.std.specs.Prelude.{nat_eq, nat_le}
 use Rattle.std.specs.List.{AllByRecursion}

@@ -1,5 +1,5 @@
 -- What a party's turn needs and leaves, by what it gathers, serves and delivers.
-use Rattle.std.proofs.Common.{◌≡◌, ◌≢◌, ◌⊎◌, inl, inr, ⊎_elim, ℕ, zero, suc, ◌+◌, ◌-◌, ◌*◌, ◌^◌, ◌<◌, ◌≤◌}
+use Rattle.std.proofs.Common.{◌≡◌, ◌⊎◌, inl, inr, ⊎_elim, ℕ, zero, suc, ◌+◌, ◌-◌, ◌^◌, ◌<◌, ◌≤◌}
 use Rattle.std.proofs.Common.{List, [], ◌∷◌, ◌++◌, map, length, Option, None, Some, Bool, true, false, max}
 use Rattle.std.proofs.Common.{All, append-nil, refl, sym, ap, subst, subst₂, ◌∙◌, arith, is_some, cond, not, ◌&&◌, ◌||◌, true≢false}
 use Rattle.std.specs.Prelude.{option_to_list}
@@ -8,12 +8,11 @@ use Rattle.std.proofs.lemmas.Bool.{and_parts}
 use Rattle.std.proofs.lemmas.List.{length-map, get_or_past, nil_from_length}
 use Rattle.std.proofs.Math.Logic.{∥∥₁_map}
 use Rattle.kv_base.proofs.CrashLemmas.{started as begun}
-use Rattle.kv_base.specs.Crash.{MayLeave}
 use Rattle.kv_base.specs.Image.{Image}
 use Rattle.kv_model.proofs.AgreementLemmas.{value-same}
 use Rattle.kv_model.specs.Items.{FollowsHistory, SameValue, class_with}
 use Rattle.kv_model.specs.Layout.{all_classes}
-use Rattle.kv_model.specs.Pairs.{Pair, pairs_in, stamps, writes}
+use Rattle.kv_model.specs.Pairs.{pairs_in, stamps}
 use Rattle.kv_model.specs.Recovery.{RecoversPrefix}
 use Rattle.kv_parties.specs.Groups.{Answers}
 use Rattle.kv_parties.specs.Messages.{groups_in, answered_in, all_asking, IsPartOf, IsWhole}
@@ -22,7 +21,7 @@ use Rattle.kv_parties.specs.Workers.{done_pairs, done_for}
 use Rattle.kv_parties.specs.Stamps.{HasDrawnNone, IsMet, size_of}
 use Rattle.kv_stamps.specs.Ranges.{among}
 use Rattle.kv_worker_party.specs.Laws.{PartyLaws}
-use Rattle.kv_worker_party.specs.Party.{BeginsWith, Holds, LeavesEach, StoodAndGoesOn, answers_to, setting_of}
+use Rattle.kv_worker_party.specs.Party.{BeginsWith, Holds, LeavesEach, AlwaysGoesOn, answers_to, setting_of}
 use Rattle.kv_worker_party.proofs.StampedLemmas.{has-weaker}
 use Rattle.kv_worker_party.proofs.TurnLemmas.{holds-turn, leaves-prefixes}
 use Rattle.kv_base.specs.Reserved.{Reserved}
@@ -33,7 +32,7 @@ use Rattle.kv_index.specs.declared.index.Index as indexes
 use Rattle.kv_model.proofs.PairwiseLemmas.{All-map}
 use Rattle.kv_model.specs.Frames.{HasReplyFrame}
 use Rattle.kv_model.specs.History.{Write}
-use Rattle.kv_ring.specs.Ends.{peers, received_from, SameRings, Looked, IsFresh}
+use Rattle.kv_ring.specs.Ends.{peers, received_from, Looked, IsFresh}
 use Rattle.kv_ring.specs.declared.ends.Ends.{Ends}
 use Rattle.kv_ring.specs.declared.message.Answer.{Answer}
 use Rattle.kv_ring.specs.declared.message.Answer.TheVariants as answer
@@ -49,17 +48,17 @@ use Rattle.kv_worker.specs.Batches.{AreAnswered, IsOpenTask, requests_in}
 use Rattle.kv_groups.specs.Delivering.{Delivers, DeliversAll, AreBack, AreFree, answer_of, tasks_of}
 use Rattle.kv_groups.specs.Delivering.{all_ended}
 use Rattle.kv_groups.specs.Gathering.{Intake, Gathers, GathersAll, IsInHand, AreIdle, intake_of}
-use Rattle.kv_groups.specs.Gathering.{taken_by, nothing, any_moved, seen_in, greatest}
+use Rattle.kv_groups.specs.Gathering.{taken_by, seen_in, greatest}
 use Rattle.kv_groups.specs.Gathering.{all_idle}
-use Rattle.kv_worker_party.specs.Serving.{IsIdle, IsClosed, IsSpent, IsStepped, HasServed}
+use Rattle.kv_worker_party.specs.Serving.{HasServed}
 use Rattle.kv_groups.specs.Taking.{connection_of, new_connection, group_taken, takes_group}
 use Rattle.kv_groups.specs.Taking.{has_bye, is_bye}
-use Rattle.kv_groups.specs.Traffic.{Traffic, traffic_with}
+use Rattle.kv_groups.specs.Traffic.{traffic_with}
 use Rattle.kv_worker_party.specs.Turns.{Exchanges, Turns, answer_to, asked_seen, asked_seens, asked_tasks, StaysAhead}
 use Rattle.kv_worker.specs.Worker.{WorkerView, start_of}
 use Rattle.kv_groups.proofs.GatherLemmas.{or-false, or-assoc}
 use Rattle.kv_worker_party.proofs.BatchedLemmas.{in_hand-all, regroup, all-many, answered-at, answered-many}
-use Rattle.kv_worker_party.proofs.SeatLemmas.{Stayed, drawn-grew, met-stayed}
+use Rattle.kv_worker_party.proofs.SeatLemmas.{Stayed, stayed, drawn-grew, met-stayed}
 use Rattle.kv_groups.proofs.TakeLemmas.{is-taken}
 use Rattle.kv_worker_party.proofs.TurnLemmas.{open-asked, tasks-at}
 
@@ -286,6 +285,7 @@ module _ {F : Type 0} where
           ++ option_to_list (connection_of old s).waiting) ++ given)
           (hand-answer (taken_by worker workers (intake_of intakes s)) (connection_of between s)
           (intake_of intakes s).tasks replied e.taken);
+      full = f.full e.full;
       replied = answers;
       gone = f.gone ∙ e.gone;
     }
@@ -354,31 +354,32 @@ pub served-stays : {D I : Type 0} (d : disks.Ghosts D) (i : indexes.Ghosts I)
     → (old.store.closed ≡ false → old.highest < view.seen) → StaysAhead old now view later
 served-stays {D} {I} d i old now view later seen requests replies served ahead = by served
   where
-    same : (later : View) → now ≡ old → later.start ≡ view.start → view.seen ≤ later.seen
-        → StaysAhead old now view later
-    same later e start up = subst (λ (w : WorkerView D I). StaysAhead old w view later) (sym e)
+    same : (later : View) → now ≡ old → Stayed view later → StaysAhead old now view later
+    same later e stays = subst (λ (w : WorkerView D I). StaysAhead old w view later) (sym e)
         (record {
           worker = refl;
           workers = refl;
-          start = start;
-          up = up;
-          ahead = λ open_. let a = ahead open_ in omega (arith, a, up);
+          start = stays.start;
+          weight = stays.weight;
+          seats = stays.seats;
+          up = stays.up;
+          ahead = λ open_. let a = ahead open_ in omega (arith, a, stays.up);
         })
 
     by : HasServed d i old now view later seen requests replies → StaysAhead old now view later
-    by (inl idle) = same later idle.worker (ap (λ (v : View). v.start) idle.view_is)
-        (let e = ap (λ (v : View). v.seen) idle.view_is in omega (arith, e))
-    by (inr (inl closed)) = same later closed.worker (ap (λ (v : View). v.start) closed.view_is)
-        (let e = ap (λ (v : View). v.seen) closed.view_is in omega (arith, e))
-    by (inr (inr (inl spent))) =
-        let s = met-stayed seen (length requests) spent.number view later spent.met in
-        same later spent.worker s.start s.up
+    by (inl idle) = same later idle.worker (subst (Stayed view) (sym idle.view_is) (stayed view))
+    by (inr (inl closed)) =
+        same later closed.worker (subst (Stayed view) (sym closed.view_is) (stayed view))
+    by (inr (inr (inl spent))) = same later spent.worker
+        (met-stayed seen (length requests) spent.number view later spent.met)
     by (inr (inr (inr stepped))) =
         let grew = drawn-grew seen (length requests) stepped.base view later stepped.drawn in
         record {
           worker = stepped.steps.kept.0;
           workers = stepped.steps.kept.1;
           start = grew.start;
+          weight = grew.weight;
+          seats = grew.seats;
           up = omega (arith, grew.from, grew.up);
           ahead = λ open_. omega (arith, stepped.steps.highest, grew.up);
         }
@@ -403,27 +404,21 @@ answered-length old new replies are =
     sym (length-map new (λ (p : ℕ × Task). p.0)) ∙ ap length are.sessions
     ∙ length-map old (λ (p : ℕ × Task). p.0)
 
--- the promise stood, and goes on
+-- from whatever promise stood it goes on
 pub goes-from : {D I F : Type 0} (laws : PartyLaws) (d : disks.Ghosts D) (i : indexes.Ghosts I)
     (first old now : WorkerView D I) (ends new : Ends (Answer F) (Ask F) 8)
     (connections after : List (Connection F)) (view later : View) (lifted : Bool) (turn : Turn)
     → (1 ≤ view.start) × (view.start ≤ view.seen)
-    → ((before : List Write) → BeginsWith d i first before (view.start - 1)
-    → ∥ Holds d i view.start (peers ends) first old ends connections view lifted before ∥₁)
     → Turns d i old now ends new connections after view later turn
     → (before : List Write) → BeginsWith d i first before (view.start - 1)
-    → ∥ StoodAndGoesOn d i view.start (peers ends) first old now ends new connections after view
-    later lifted before ∥₁
+    → AlwaysGoesOn d i view.start (peers ends) first old now ends new connections after view later
+    lifted before
 goes-from {D = D} {I = I} {F = F} laws d i first old now ends new connections after view later lifted
-    turn started promise t before begins =
-    ∥∥₁_map (promise before begins)
-    (λ (h : Holds d i view.start (peers ends) first old ends connections view lifted before). (
-      h,
-      holds-turn laws d i view.start (peers ends) first old now ends new connections after view
-          later turn lifted before h started
-          (All-map (λ write. write.stamp ≤ view.start - 1) (λ write. write.stamp < view.seen) before
-          (λ write le. omega (arith, le, started.0, started.1)) begins.below) refl t,
-    ))
+    turn started t before begins = λ h.
+    holds-turn laws d i view.start (peers ends) first old now ends new connections after view
+    later turn lifted before h started
+    (All-map (λ write. write.stamp ≤ view.start - 1) (λ write. write.stamp < view.seen) before
+    (λ write le. omega (arith, le, started.0, started.1)) begins.below) refl t
 
 -- the promise goes on
 pub goes-on : {D I F : Type 0} (laws : PartyLaws) (d : disks.Ghosts D) (i : indexes.Ghosts I)
@@ -438,10 +433,13 @@ pub goes-on : {D I F : Type 0} (laws : PartyLaws) (d : disks.Ghosts D) (i : inde
 goes-on {D = D} {I = I} {F = F} laws d i first old now ends new connections after view later lifted
     turn started promise t start_is before begins =
     let P : ℕ → ℕ → Type 0 = λ m n. Holds d i m n first now new after later lifted before in
-    ∥∥₁_map (goes-from laws d i first old now ends new connections after view later lifted turn
-    started promise t before (subst (λ n. BeginsWith d i first before (n - 1)) start_is begins))
-    (λ (g : StoodAndGoesOn d i view.start (peers ends) first old now ends new connections after view
-    later lifted before). subst₂ P (sym start_is) (sym t.rings.peers) g.1.holds)
+    let was : BeginsWith d i first before (view.start - 1) =
+    subst (λ n. BeginsWith d i first before (n - 1)) start_is begins in
+    ∥∥₁_map (promise before was)
+    (λ (h : Holds d i view.start (peers ends) first old ends connections view lifted before).
+    subst₂ P (sym start_is) (sym t.rings.peers)
+    (goes-from laws d i first old now ends new connections after view later lifted turn started t
+    before was h).holds)
 
 -- a seat that only looked, or was raised from outside, which is noted
 pub record Lifts (view later : View) (lifted raised : Bool) : Type 0 where

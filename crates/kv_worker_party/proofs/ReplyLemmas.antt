@@ -1,6 +1,6 @@
 -- Lemmas on what kinds of replies a batch is given.
 use Rattle.std.proofs.Common.{◌≡◌, ◌≢◌, ℕ, ◌+◌, List, [], ◌∷◌, map, Option, Some, None, Bool, true}
-use Rattle.std.proofs.Common.{false, ◌||◌, refl, sym, ap, subst, ◌∙◌, IsSome, true≢false, ◌⊎◌, inl, inr, MatchOption}
+use Rattle.std.proofs.Common.{false, ◌||◌, refl, sym, ap, ◌∙◌, true≢false, ◌⊎◌, inl, inr}
 use Rattle.std.specs.List.{AllByRecursion, cons_option}
 use Rattle.std.proofs.lemmas.Bool.{or_parts, or_left, or_right, or_cases, cases_Bool}
 use Rattle.kv_base.specs.declared.reply.Reply.{Reply}
@@ -9,14 +9,13 @@ use Rattle.kv_base.specs.declared.reply.Reply.TheVariants.{Full}
 use Rattle.kv_base.specs.declared.reply.Reply.TheVariants.{DiskFault, Unsure, Closed, StampsSpent}
 use Rattle.kv_base.specs.declared.request.Request.{Request}
 use Rattle.kv_base.specs.declared.request.Request.TheVariants.{Put, Get, Delete, Flush}
-use Rattle.kv_model.specs.Agreement.{told_of, IsMapAnswer, IsRefusal}
-use Rattle.kv_model.specs.Batch.{Start, IsTask, answers, reply_of, put_reply, get_reply}
+use Rattle.kv_model.specs.Agreement.{told_of}
+use Rattle.kv_model.specs.Batch.{Start, answers, reply_of, put_reply, get_reply}
 use Rattle.kv_model.specs.Batch.{delete_reply, behind, failed_reply, failed_replies, full_class}
 use Rattle.kv_model.specs.Batch.{value_after, accepted_writes, net}
 use Rattle.kv_model.specs.BatchLaws.{pairs_of}
 use Rattle.kv_model.specs.History.{Write}
-use Rattle.kv_model.specs.Layout.{all_classes}
-use Rattle.kv_model.specs.Pairs.{Pair, key_of, stamp_of, unsure_by, unsure_writes}
+use Rattle.kv_model.specs.Pairs.{Pair, unsure_by, unsure_writes}
 use Rattle.kv_parties.specs.Causes.{is_unsure, is_fault, any_unsure, any_fault}
 use Rattle.kv_worker_party.proofs.ListLemmas.{heads, tails, none-here}
 use Rattle.kv_worker_party.proofs.StampedLemmas.{same-told}

@@ -1,6 +1,6 @@
 -- Lemmas on pairs that are all refused.
-use Rattle.std.proofs.Common.{◌≡◌, ◌≢◌, ◌<◌, ◌^◌, List, [], ◌∷◌, map, Option, Some, None, Bool, true, false, ℕ}
-use Rattle.std.proofs.Common.{arith, length, refl, sym, ap, subst, ◌∙◌, IsSome, true≢false, ◌⊎◌, inl, inr, MatchOption}
+use Rattle.std.proofs.Common.{◌≡◌, ◌<◌, ◌^◌, List, [], ◌∷◌, map, None, Bool, ℕ}
+use Rattle.std.proofs.Common.{arith, length, refl, sym, ap, subst, IsSome, true≢false, inl, inr, MatchOption}
 use Rattle.std.specs.List.{AllByRecursion}
 use Rattle.kv_base.specs.declared.reply.Reply.{Reply}
 use Rattle.kv_base.specs.declared.reply.Reply.TheVariants.{NoMemory, DiskFault, Closed, StampsSpent}

@@ -1,25 +1,23 @@
 -- A turn keeps the promise of a party.
-use Rattle.std.proofs.Common.{◌≡◌, ◌≢◌, ◌⊎◌, inl, inr, ⊎_elim, ℕ, zero, suc, ◌+◌, ◌-◌, ◌^◌, ◌<◌, ◌≤◌}
+use Rattle.std.proofs.Common.{◌≡◌, ◌⊎◌, inl, inr, ⊎_elim, ℕ, zero, suc, ◌+◌, ◌-◌, ◌^◌, ◌<◌, ◌≤◌}
 use Rattle.std.proofs.Common.{List, [], ◌∷◌, ◌++◌, map, length, Option, None, Some, Bool, true, false}
-use Rattle.std.proofs.Common.{refl, sym, ap, subst, subst₂, ◌∙◌, arith, append-nil, append_assoc}
-use Rattle.std.proofs.Common.{length-append, IfSome, MatchOption, All, Contains}
+use Rattle.std.proofs.Common.{refl, sym, ap, subst, subst₂, ◌∙◌, arith, append-nil}
+use Rattle.std.proofs.Common.{length-append, All, Contains}
 use Rattle.std.specs.Prelude.{option_to_list, if◌then◌else◌}
-use Rattle.std.specs.List.{AllByRecursion, flat_map}
+use Rattle.std.specs.List.{AllByRecursion}
 use Rattle.std.proofs.lemmas.Grind.{merely}
 use Rattle.std.proofs.lemmas.List.{length-map}
 use Rattle.std.proofs.lemmas.List.Concat.{flat_map-append}
 use Rattle.std.proofs.lemmas.List.Elements.{All-append as All-append_at, Contains-append_left}
 use Rattle.std.proofs.lemmas.List.Elements.{Contains-append_right}
 use Rattle.kv_base.specs.Crash.{LeavesOnly}
-use Rattle.kv_base.specs.Image.{Image}
-use Rattle.kv_base.specs.Partition.{owner_of}
 use Rattle.kv_base.specs.declared.limits.Limits.{Limits}
 use Rattle.kv_base.specs.Reserved.{Reserved}
 use Rattle.kv_base.specs.declared.reply.Reply.{Reply}
 use Rattle.kv_base.specs.declared.request.Request.{Request}
 use Rattle.kv_disk.specs.declared.disk.Disk as disks
 use Rattle.kv_index.specs.declared.index.Index as indexes
-use Rattle.kv_model.proofs.PairwiseLemmas.{All-append, All-map, All-rest, Pairwise-append}
+use Rattle.kv_model.proofs.PairwiseLemmas.{All-append, All-map, All-rest}
 use Rattle.kv_model.proofs.ContainsLemmas.{Contains-first}
 use Rattle.kv_model.specs.Agreement.{AgreesWithMap}
 use Rattle.kv_model.specs.Batch.{IsTask}
@@ -27,23 +25,22 @@ use Rattle.kv_model.specs.BatchLaws.{pairs_of}
 use Rattle.kv_model.specs.History.{Write}
 use Rattle.kv_model.specs.Items.{FollowsHistory}
 use Rattle.kv_model.specs.Layout.{all_classes}
-use Rattle.kv_model.specs.Pairs.{Pair, pairs_in, stamps, writes, unsure_writes, key_of}
+use Rattle.kv_model.specs.Pairs.{Pair, pairs_in, stamps, writes, unsure_writes}
 use Rattle.kv_model.specs.Pairwise.{Pairwise}
 use Rattle.kv_model.specs.Recovery.{RecoversPrefix}
 use Rattle.kv_parties.specs.Causes.{KeepsCauses, all_writes}
-use Rattle.kv_parties.specs.Groups.{Asked, IsAnsweredBy, Answers}
+use Rattle.kv_parties.specs.Groups.{Asked, Answers}
 use Rattle.kv_parties.specs.Messages.{groups_in, answered_in, all_asking, group_of, asking}
 use Rattle.kv_parties.specs.Messages.{answered_of, task_pairs, IsPartOf, IsReplied, IsWhole}
 use Rattle.kv_parties.specs.Promises.{WorkerPromise}
-use Rattle.kv_parties.specs.Recovered.{LeavesPrefixes, Recovers}
+use Rattle.kv_parties.specs.Recovered.{LeavesPrefixes}
 use Rattle.kv_parties.specs.Setting.{Setting, IsOwned}
 use Rattle.kv_parties.specs.Stamps.{IsForGroup}
-use Rattle.kv_parties.specs.Workers.{AnswersGroups, Done, done_pairs, done_for}
+use Rattle.kv_parties.specs.Workers.{Done, done_pairs, done_for}
 use Rattle.kv_ring.specs.Ends.{peers, received_from}
 use Rattle.kv_ring.specs.Tasks.{requests_of}
 use Rattle.kv_ring.specs.declared.ends.Ends.{Ends}
 use Rattle.kv_ring.specs.declared.message.Answer.{Answer}
-use Rattle.kv_ring.specs.declared.message.Answer.TheVariants as answer
 use Rattle.kv_ring.specs.declared.message.Ask.{Ask}
 use Rattle.kv_ring.specs.declared.message.Ask.TheVariants as ask
 use Rattle.kv_ring.specs.declared.task.Task.{Task}
@@ -53,14 +50,13 @@ use Rattle.kv_stamps.specs.declared.view.View.{View}
 use Rattle.kv_groups.specs.declared.connection.Connection.{Connection}
 use Rattle.kv_ring.specs.declared.turn.Turn.{Turn}
 use Rattle.kv_groups.specs.Batched.{of_session, in_hand, AreReplied}
-use Rattle.kv_worker.specs.Batches.{AreAnswered, IsOpenTask, requests_in}
+use Rattle.kv_worker.specs.Batches.{IsOpenTask, requests_in}
 use Rattle.kv_groups.specs.Delivering.{tasks_of}
-use Rattle.kv_groups.specs.Gathering.{Intake, intake_of, taken_by, nothing, greatest}
+use Rattle.kv_groups.specs.Gathering.{Intake, intake_of, taken_by, greatest}
 use Rattle.kv_worker_party.specs.Laws.{PartyLaws}
 use Rattle.kv_worker_party.specs.Party.{GoesOn, Holds, LeavesEach, answers_to, data_of, setting_of}
-use Rattle.kv_groups.specs.Taking.{connection_of, group_taken, takes_group}
-use Rattle.kv_groups.specs.Traffic.{traffic_with}
-use Rattle.kv_worker_party.specs.Turns.{Exchanges, Turns, answer_to, asked_seen, asked_seens, asked_tasks}
+use Rattle.kv_groups.specs.Taking.{group_taken, takes_group}
+use Rattle.kv_worker_party.specs.Turns.{Turns, answer_to, asked_seen, asked_seens, asked_tasks}
 use Rattle.kv_worker.specs.Worker.{WorkerView, start_of}
 use Rattle.kv_worker_party.proofs.BatchedLemmas.{in_hand-all}
 use Rattle.kv_worker_party.proofs.BatchedLemmas.{answered-many, answered-requests, all_task_pairs}
@@ -72,7 +68,7 @@ use Rattle.kv_worker_party.proofs.WholeLemmas.{IsFramed, items-framed, tasks-eac
 use Rattle.kv_worker_party.proofs.WholeLemmas.{answer-whole, pairs-few, pairs-many, reply-many}
 use Rattle.kv_worker_party.proofs.CountedLemmas.{IsGapBehind, served-counted, greatest-taken}
 use Rattle.kv_worker_party.proofs.CountedLemmas.{gaps-longer, gaps-for}
-use Rattle.kv_worker_party.proofs.KeepLemmas.{Keeps, Adds, served-keeps, served-leaves}
+use Rattle.kv_worker_party.proofs.KeepLemmas.{Keeps, served-keeps, served-leaves, served-stays}
 use Rattle.kv_worker_party.proofs.StampedLemmas.{HasStamp, stamps-all}
 use Rattle.kv_groups.proofs.TakeLemmas.{is-taken}
 use Rattle.kv_worker_party.proofs.OpenLemmas.{all-open}
@@ -502,6 +498,11 @@ holds-turn {D = D} {I = I} {F = F} laws d i start sessions first old now ends ne
       holds = holds;
       more = fresh;
       longer = refl;
+      stays = λ acks acked image was. subst (λ ps. RecoversPrefix all_classes
+          (all_writes before ps) acks image first.store.worker first.store.workers) all_is
+          (served-stays laws d i start sessions first before pairs old now t.seen view later
+          requests t.replies keeps (good-requests worker workers items open_) t.served acks acked
+          image was);
       moments = subst (λ ps. LeavesOnly (d.calls old.store.disk.disk) (d.calls now.store.disk.disk)
           (d.leaves old.store.disk.disk) (d.leaves now.store.disk.disk)
           (λ image. RecoversPrefix all_classes (all_writes before ps) (before ++ writes pairs) image

@@ -1,6 +1,6 @@
 -- Each task of an answer has a reply that goes into a frame.
-use Rattle.std.proofs.Common.{◌≡◌, ℕ, zero, suc, ◌+◌, ◌^◌, ◌<◌, ◌≤◌, List, [], ◌∷◌, ◌++◌, map, length, Option}
-use Rattle.std.proofs.Common.{Some, None, IfSome, refl, sym, ap, subst, ◌∙◌, arith}
+use Rattle.std.proofs.Common.{◌≡◌, ℕ, zero, suc, ◌+◌, ◌^◌, ◌<◌, ◌≤◌, List, [], ◌∷◌, map, length, Option}
+use Rattle.std.proofs.Common.{Some, None, IfSome, sym, ap, subst, arith}
 use Rattle.std.specs.List.{AllByRecursion, cons_option}
 use Rattle.std.specs.Option.{option_map}
 use Rattle.std.proofs.lemmas.List.{length-map}
@@ -10,10 +10,9 @@ use Rattle.kv_base.specs.declared.request.Request.{Request}
 use Rattle.kv_model.proofs.PairwiseLemmas.{All-front, All-rest}
 use Rattle.kv_model.specs.BatchLaws.{pairs_of}
 use Rattle.kv_model.specs.Frames.{HasReplyFrame}
-use Rattle.kv_model.specs.Pairs.{Pair, stamps, stamp_of}
-use Rattle.kv_parties.specs.Messages.{IsReplied, IsWhole, task_pairs, pair_of}
+use Rattle.kv_model.specs.Pairs.{stamps, stamp_of}
+use Rattle.kv_parties.specs.Messages.{IsReplied, IsWhole, task_pairs}
 use Rattle.kv_ring.specs.Tasks.{replies_of}
-use Rattle.kv_ring.specs.declared.message.Answer.{Answer}
 use Rattle.kv_ring.specs.declared.task.Task.{Task}
 use Rattle.kv_groups.specs.Batched.{of_session, in_hand}
 use Rattle.kv_groups.specs.Delivering.{tasks_of}

@@ -1,5 +1,5 @@
 -- What a worker's party promises of what went through its rings, its stamps, its map and its disk.
-use Rattle.std.specs.Prelude.{◌≡◌, ℕ, ◌+◌, ◌-◌, ◌<◌, ◌≤◌, List, [], ◌++◌, length, Bool, true, false}
+use Rattle.std.specs.Prelude.{◌≡◌, ℕ, ◌-◌, ◌<◌, ◌≤◌, List, [], ◌++◌, length, Bool, false}
 use Rattle.std.specs.Prelude.{option_to_list, MatchOption, ⊤}
 use Rattle.std.specs.List.{AllByRecursion}
 use Rattle.kv_base.specs.Crash.{LeavesOnly, MayLeave}
@@ -16,7 +16,7 @@ use Rattle.kv_parties.specs.Promises.{WorkerData, WorkerPromise}
 use Rattle.kv_parties.specs.Causes.{all_writes}
 use Rattle.kv_parties.specs.Setting.{Setting}
 use Rattle.kv_parties.specs.Workers.{Done, done_pairs}
-use Rattle.kv_ring.specs.Ends.{sent_to, received_from, peers}
+use Rattle.kv_ring.specs.Ends.{sent_to, received_from}
 use Rattle.kv_ring.specs.declared.ends.Ends.{Ends}
 use Rattle.kv_ring.specs.declared.message.Answer.{Answer}
 use Rattle.kv_ring.specs.declared.message.Ask.{Ask}
@@ -102,8 +102,10 @@ pub record Holds {D I F : Type 0} (d : disks.Ghosts D) (i : indexes.Ghosts I)
   pub same : (now.store.worker ≡ first.store.worker)
       × (now.store.workers ≡ first.store.workers) × (now.store.limits ≡ first.store.limits)
 
--- the promise goes on, with more behind its history; and at each moment between the two a crash leaves
--- of each key the value after a prefix of its writes, which holds all that was answered before
+-- the promise goes on, with more behind its history; an image that recovered a prefix of what was
+-- answered before does so of all that is answered now, with the same writes acknowledged; and at each
+-- moment between the two a crash leaves of each key the value after a prefix of its writes, which holds
+-- all that was answered before
 pub record GoesOn {D I F : Type 0} (d : disks.Ghosts D) (i : indexes.Ghosts I)
     (start sessions : ℕ) (first old now : WorkerView D I) (ends new : Ends (Answer F) (Ask F) 8)
     (connections after : List (Connection F)) (view later : View) (lifted : Bool)
@@ -113,6 +115,12 @@ pub record GoesOn {D I F : Type 0} (d : disks.Ghosts D) (i : indexes.Ghosts I)
   pub holds : Holds d i start sessions first now new after later lifted before
   pub more : List Done
   pub longer : holds.promise.groups.history ≡ h.promise.groups.history ++ more
+  pub stays : (acknowledged : List Write)
+      → AllByRecursion (λ write. write.stamp < view.seen) acknowledged → (image : Image)
+      → RecoversPrefix all_classes (all_writes before (done_pairs h.promise.groups.history))
+      acknowledged image first.store.worker first.store.workers
+      → RecoversPrefix all_classes (all_writes before (done_pairs holds.promise.groups.history))
+      acknowledged image first.store.worker first.store.workers
   pub moments : LeavesOnly (d.calls old.store.disk.disk) (d.calls now.store.disk.disk)
       (d.leaves old.store.disk.disk) (d.leaves now.store.disk.disk)
       (λ image. RecoversPrefix all_classes
@@ -120,11 +128,11 @@ pub record GoesOn {D I F : Type 0} (d : disks.Ghosts D) (i : indexes.Ghosts I)
       (before ++ writes (done_pairs h.promise.groups.history)) image first.store.worker
       first.store.workers)
 
--- the promise stood, and goes on so
-abbrev pub StoodAndGoesOn : {D I F : Type 0} → disks.Ghosts D → indexes.Ghosts I → ℕ → ℕ
+-- from whatever promise of these writes stood the promise goes on so
+abbrev pub AlwaysGoesOn : {D I F : Type 0} → disks.Ghosts D → indexes.Ghosts I → ℕ → ℕ
     → WorkerView D I → WorkerView D I → WorkerView D I → Ends (Answer F) (Ask F) 8
     → Ends (Answer F) (Ask F) 8 → List (Connection F) → List (Connection F) → View → View → Bool
     → List Write → Type 0
-StoodAndGoesOn d i start sessions first old now ends new connections after view later lifted before =
+AlwaysGoesOn d i start sessions first old now ends new connections after view later lifted before =
     (h : Holds d i start sessions first old ends connections view lifted before)
-    × GoesOn d i start sessions first old now ends new connections after view later lifted before h
+    → GoesOn d i start sessions first old now ends new connections after view later lifted before h

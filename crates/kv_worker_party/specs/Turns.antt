@@ -1,6 +1,6 @@
 -- What a turn of a worker's party does.
-use Rattle.std.specs.Prelude.{◌≡◌, ℕ, ◌<◌, ◌≤◌, List, [], ◌∷◌, ◌++◌, length, Option, None, Some, Bool}
-use Rattle.std.specs.Prelude.{true, false, ◌||◌, if◌then◌else◌, option_to_list}
+use Rattle.std.specs.Prelude.{◌≡◌, ℕ, ◌<◌, ◌≤◌, List, [], ◌∷◌, ◌++◌, length, Option, None, Some}
+use Rattle.std.specs.Prelude.{false, ◌||◌, option_to_list}
 use Rattle.std.specs.List.{AllByRecursion}
 use Rattle.kv_base.specs.Reserved.{Reserved}
 use Rattle.kv_base.specs.declared.reply.Reply.{Reply}
@@ -23,7 +23,7 @@ use Rattle.kv_groups.specs.Delivering.{tasks_of, all_ended}
 use Rattle.kv_groups.specs.Gathering.{Intake, all_tasks, intake_of, taken_by, any_moved, greatest}
 use Rattle.kv_worker_party.specs.Serving.{HasServed}
 use Rattle.kv_groups.specs.Taking.{connection_of, is_bye}
-use Rattle.kv_groups.specs.Traffic.{Traffic, traffic_with}
+use Rattle.kv_groups.specs.Traffic.{Traffic, traffic_with, WaitsForPlace}
 use Rattle.kv_worker.specs.Worker.{WorkerView}
 
 -- the tasks of the group that is taken, if one is
@@ -49,7 +49,7 @@ module _ {F : Type 0} where
   answer_to (Some group) tasks = Group (record { items = tasks; spare = group.1.spare }) ∷ []
 
   -- of one session: the answer that waited is sent or waits on, the next message is taken or passed
-  -- over, and a group that is taken has its answer, sent or waiting
+  -- over, and a group that is taken has its answer, sent or waiting; one waits only for want of a place
   pub record Exchanges (worker workers : ℕ) (traffic new : Traffic F) (old now : Connection F)
       (intake : Intake F) (answered : List Task) : Type 0 where
     pub received : new.received ≡ traffic.received ++ option_to_list intake.came
@@ -59,6 +59,7 @@ module _ {F : Type 0} where
     pub sent : new.sent ++ option_to_list now.waiting
         ≡ (traffic.sent ++ option_to_list old.waiting)
         ++ answer_to (taken_by worker workers intake) answered
+    pub full : WaitsForPlace now.waiting new
     pub replied : AreReplied intake.tasks answered
     pub gone : now.gone ≡ (old.gone || is_bye intake.came)
 
@@ -84,11 +85,13 @@ pub record Turns {D I F : Type 0} (d : disks.Ghosts D) (i : indexes.Ghosts I)
   pub turn_is : turn ≡ turn_of (all_ended after) (any_moved connections intakes)
   pub rings : SameRings ends new
 
--- the worker is the same one of as many, and as long as it is open, its stamps are below what its seat
--- has seen, which is no less than before
+-- the worker is the same one of as many, its seat has the same share of the counter, and as long as
+-- the worker is open, its stamps are below what its seat has seen, which is no less than before
 pub record StaysAhead {D I : Type 0} (old now : WorkerView D I) (view later : View) : Type 0 where
   pub worker : now.store.worker ≡ old.store.worker
   pub workers : now.store.workers ≡ old.store.workers
   pub start : later.start ≡ view.start
+  pub weight : later.weight ≡ view.weight
+  pub seats : later.seats ≡ view.seats
   pub up : view.seen ≤ later.seen
   pub ahead : now.store.closed ≡ false → now.highest < later.seen

@@ -1,6 +1,11 @@
+ghost use denote.Param.Send.{IsSend};
 ghost use Rattle.kv_worker_party.specs.Due.{DueAreTaken};
 ghost use Rattle.kv_worker_party.specs.Laws.{PartyLaws};
+ghost use Rattle.kv_worker_party.specs.contracts.party.WorkerParty.{the_row as party};
 
+use crate::party::WorkerParty;
+use kv_disk::Disk;
+use kv_index::Index;
 use kv_model::{
     failed_answers_agree_with_one_map, failed_writes_are_unsure, prefixes_stay,
     refusals_agree_with_one_map, refusals_are_silent, stamps_follow_requests,
@@ -26,3 +31,15 @@ pub fn party_laws()
 pub fn due_messages_are_taken<F>()
     ensures { DueAreTaken F }
 {}
+
+fn is_send<T: Send>()
+    ensures { IsSend T.row }
+{}
+
+/// A worker's party may move to another thread, where its disk, its index and the fold that a message
+/// carries may.
+pub fn worker_parties_cross_threads<D: Disk + Send, I: Index + Send, F: Send>()
+    ensures { IsSend (party D.row I.row F.row ⟦<D as Disk>⟧ ⟦<I as Index>⟧) }
+{
+    is_send::<WorkerParty<D, I, F>>();
+}

@@ -6,5 +6,5 @@ mod laws;
 mod party;
 mod serve;
 
-pub use laws::due_messages_are_taken;
+pub use laws::{due_messages_are_taken, worker_parties_cross_threads};
 pub use party::{WorkerParts, WorkerParty};

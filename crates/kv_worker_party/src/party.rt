@@ -11,7 +11,7 @@ use crate::exchange::exchange;
 use crate::laws::party_laws;
 use kv_base::NoMemory;
 use kv_disk::Disk;
-use kv_groups::Connection;
+use kv_groups::{Connection, all_ended};
 use kv_index::Index;
 use kv_ring::{SessionEnds, Turn, WorkerEnds, WorkerSide, left_between};
 use kv_stamps::{StampSeat, Stamps};
@@ -81,15 +81,16 @@ fn new_connections<F: Drop>(alloc: Global, sessions: u32) -> Result<Vec<Connecti
 
 impl<D: Disk + Drop, I: Index + Drop, F: Drop> WorkerParty<D, I, F> {
     ghost use Rattle.std.specs.Prelude.{◌≡◌, ◌≢◌, ℕ, ◌+◌, ◌-◌, ◌<◌, ◌≤◌, ◌^◌, [], min, IfOk, IfErr};
-    ghost use Rattle.std.specs.Prelude.{false, length, vec_len, List};
+    ghost use Rattle.std.specs.Prelude.{true, false, length, vec_len, List};
     ghost use Rattle.kv_model.specs.Head.{IsWorker};
     ghost use Rattle.kv_model.specs.History.{Write};
     ghost use Rattle.kv_parties.specs.Stamps.{HasDrawnNone};
     ghost use Rattle.kv_ring.specs.Ends.{peers, IsFresh};
     ghost use Rattle.kv_stamps.specs.Steps.{Raises, Looks};
-    ghost use Rattle.kv_worker_party.specs.Party.{BeginsWith, StoodAndGoesOn};
-    ghost use Rattle.kv_groups.specs.Taking.{new_connection};
-    ghost use Rattle.kv_worker_party.specs.Turns.{Turns};
+    ghost use Rattle.kv_worker_party.specs.Party.{BeginsWith, AlwaysGoesOn};
+    ghost use Rattle.kv_groups.specs.Delivering.{all_ended};
+    ghost use Rattle.kv_groups.specs.Taking.{connection_of, new_connection};
+    ghost use Rattle.kv_worker_party.specs.Turns.{Turns, StaysAhead};
 
     /// Joins the parts, and takes the room of a batch; want of memory hands them back. The worker
     /// is open and has this number among so many, nothing was sent or received through the ends, and
@@ -112,6 +113,8 @@ impl<D: Disk + Drop, I: Index + Drop, F: Drop> WorkerParty<D, I, F> {
         ensures ok { IfOk result (λ party. (party.worker ≡ parts.worker)
             × (party.ends ≡ parts.ends) × (party.seat ≡ parts.seat)
             × (party.first.value ≡ parts.worker) × (party.lifted ≡ false)) }
+        ensures none { IfOk result (λ party. (session : ℕ)
+            → connection_of party.connections.items session ≡ new_connection) }
         ensures err { IfErr result (λ refused. refused.0 ≡ parts) }
     {
         let batch = match Batch::with_room(alloc, MOST_TASKS) {
@@ -149,10 +152,12 @@ impl<D: Disk + Drop, I: Index + Drop, F: Drop> WorkerParty<D, I, F> {
             self.old.seat.view self.new.seat.view result }
         ensures goes_on { (before : List Write) → BeginsWith ⟦<D as Disk>⟧ ⟦<I as Index>⟧
             self.old.first.value before (self.old.seat.view.start - 1)
-            → ∥ StoodAndGoesOn ⟦<D as Disk>⟧ ⟦<I as Index>⟧ self.old.seat.view.start
+            → AlwaysGoesOn ⟦<D as Disk>⟧ ⟦<I as Index>⟧ self.old.seat.view.start
             (peers self.old.ends) self.old.first.value self.old.worker self.new.worker
             self.old.ends self.new.ends self.old.connections.items self.new.connections.items
-            self.old.seat.view self.new.seat.view self.old.lifted before ∥₁ }
+            self.old.seat.view self.new.seat.view self.old.lifted before }
+        ensures ahead { StaysAhead self.old.worker self.new.worker self.old.seat.view
+            self.new.seat.view }
         ensures counter { self.new.seat.counter ≡ self.old.seat.counter }
         ensures first { (self.new.first.value ≡ self.old.first.value)
             × (self.new.lifted ≡ self.old.lifted) }
@@ -181,6 +186,7 @@ impl<D: Disk + Drop, I: Index + Drop, F: Drop> WorkerParty<D, I, F> {
         ensures kept { (self.new.worker ≡ self.old.worker) × (self.new.ends ≡ self.old.ends)
             × (self.new.connections ≡ self.old.connections)
             × (self.new.first.value ≡ self.old.first.value) }
+        ensures lifted { self.new.lifted ≡ true }
     {
         self.lifted = true;
         stamps.raise(&mut self.seat, to);
@@ -199,6 +205,13 @@ impl<D: Disk + Drop, I: Index + Drop, F: Drop> WorkerParty<D, I, F> {
             × (self.new.lifted ≡ self.old.lifted) }
     {
         stamps.look(&mut self.seat)
+    }
+
+    /// Whether every session has said farewell and no answer waits, as a turn tells by `Ended`.
+    pub fn ended(&self) -> bool
+        ensures { result ≡ all_ended self.now.connections.items }
+    {
+        all_ended(&self.connections)
     }
 
     /// The parts. Answers that wait to be sent are dropped.

@@ -1,5 +1,5 @@
 -- one session more, from the last to the first
-use Rattle.std.proofs.Common.{◌≡◌, ◌+◌, ◌-◌, ◌<◌, ◌≤◌, ℕ, List, [], arith, refl, sym, ap, subst, ◌∙◌, length}
+use Rattle.std.proofs.Common.{◌≡◌, ◌+◌, ◌-◌, arith, refl, subst, ◌∙◌}
 use Rattle.std.proofs.Common.{length-set}
 use Rattle.kv_groups.proofs.DeliverLemmas.{DeliversFrom, delivers-none, delivers-more, delivers-all}
 use Rattle.kv_groups.proofs.DeliverLemmas.{back-some, session-free, batch-less}

@@ -1,6 +1,5 @@
 -- the answer goes, if a group is in hand
-use Rattle.std.proofs.Common.{◌≡◌, ◌∙◌, ◌++◌, arith, refl, sym, ap, length, ℕ, List, map}
-use Rattle.kv_ring.specs.declared.task.Task.{Task}
+use Rattle.std.proofs.Common.{◌∙◌, arith, refl, sym, ap, length}
 use Rattle.kv_groups.specs.Batched.{of_session, tasks_in}
 use Rattle.kv_groups.proofs.AnsweringLemmas.{delivers-some, delivers-nothing, some-free, front-alone}
 use Rattle.kv_groups.proofs.BatchLemmas.{untag}

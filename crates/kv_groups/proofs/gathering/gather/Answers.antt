@@ -1,6 +1,6 @@
 -- one session more
-use Rattle.std.proofs.Common.{◌≡◌, ◌+◌, ◌*◌, ◌<◌, ◌≤◌, ℕ, arith, sym, ap, subst, set, ◌∙◌, length, length-append}
-use Rattle.kv_groups.specs.Batched.{of_session, in_hand}
+use Rattle.std.proofs.Common.{◌+◌, arith, sym, ap, subst, set, length, length-append}
+use Rattle.kv_groups.specs.Batched.{of_session}
 use Rattle.kv_groups.proofs.GatherLemmas.{GathersFirst, gathers-none, gathers-more, gathers-all, session-idle}
 use Rattle.kv_groups.proofs.GatherLemmas.{of_session-length}
 use Rattle.kv_groups.proofs.gathering.gather.Goals as goal

@@ -1,5 +1,5 @@
 -- the answer goes, the message is taken, and its tasks are moved
-use Rattle.std.proofs.Common.{◌≡◌, ◌∙◌, ◌||◌, arith, refl, sym, ap, is_some, ℕ}
+use Rattle.std.proofs.Common.{◌∙◌, ◌||◌, arith, refl, ap, is_some}
 use Rattle.kv_groups.proofs.GatherLemmas.{same-rings}
 use Rattle.kv_groups.proofs.ReceiveLemmas.{gathers-from, intake_from, got-few}
 use Rattle.kv_groups.proofs.gathering.gather_from.Goals as goal

@@ -1,5 +1,5 @@
 -- the list that is lent gets the tasks
-use Rattle.std.proofs.Common.{◌≡◌, ◌∙◌, arith, ap, sym, length}
+use Rattle.std.proofs.Common.{◌∙◌, arith, ap, sym, length}
 use Rattle.kv_groups.proofs.HandLemmas.{lent-is}
 use Rattle.kv_groups.proofs.hand_in.hand_back.Goals as goal
 

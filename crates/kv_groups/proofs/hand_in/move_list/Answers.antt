@@ -1,5 +1,5 @@
 -- the list that is lent has its tasks
-use Rattle.std.proofs.Common.{◌≡◌, ◌++◌, ◌∙◌, arith, ap, length}
+use Rattle.std.proofs.Common.{◌++◌, ◌∙◌, arith, ap, length}
 use Rattle.kv_groups.specs.Batched.{of_session}
 use Rattle.kv_groups.proofs.HandLemmas.{lent-is}
 use Rattle.kv_groups.proofs.hand_in.move_list.Goals as goal

@@ -1,5 +1,5 @@
 -- each task is moved back once, from the last to the first
-use Rattle.std.proofs.Common.{◌≡◌, ◌+◌, ◌-◌, ◌++◌, ◌∙◌, arith, ap, take, drop, map, subst, length}
+use Rattle.std.proofs.Common.{◌≡◌, ◌+◌, ◌-◌, ◌++◌, ◌∙◌, arith, ap, take, drop, map, subst}
 use Rattle.kv_groups.proofs.HandLemmas.{back-more}
 use Rattle.kv_groups.proofs.hand_in.take_tasks.Goals as goal
 

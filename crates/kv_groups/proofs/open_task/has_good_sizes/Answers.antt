@@ -1,5 +1,5 @@
 -- a put is of good sizes where it has a class
-use Rattle.std.proofs.Common.{◌≡◌, ◌∙◌, ap, sym, is_some, not, length}
+use Rattle.std.proofs.Common.{◌∙◌, ap, sym, is_some, not, length}
 use Rattle.kv_base.specs.declared.request.Request.{Request}
 use Rattle.kv_model.specs.Agreement.{refusal_of}
 use Rattle.kv_model.specs.Layout.{all_classes, class_of}

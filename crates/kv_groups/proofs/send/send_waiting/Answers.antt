@@ -1,5 +1,5 @@
 -- the answer that waits goes, if there is one
-use Rattle.std.proofs.Common.{◌≡◌, ◌∙◌, sym, ap, subst, None, Some}
+use Rattle.std.proofs.Common.{◌∙◌, sym, subst, None}
 use Rattle.kv_groups.specs.Traffic.{Sends}
 use Rattle.kv_groups.proofs.ReceiveLemmas.{none-sends}
 use Rattle.kv_groups.proofs.send.send_waiting.Goals as goal

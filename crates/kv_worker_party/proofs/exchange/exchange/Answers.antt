@@ -1,6 +1,6 @@
 -- the batch of all groups is served
-use Rattle.std.proofs.Common.{◌≡◌, ◌+◌, ◌-◌, ◌*◌, ◌<◌, ◌≤◌, ◌++◌, ℕ, List, [], map, length, arith}
-use Rattle.std.proofs.Common.{refl, sym, ap, subst, subst₂, ◌∙◌, false}
+use Rattle.std.proofs.Common.{ℕ, List, length, arith}
+use Rattle.std.proofs.Common.{sym, ap, subst, ◌∙◌}
 use Rattle.kv_ring.specs.declared.task.Task.{Task}
 use Rattle.kv_worker.specs.Batches.{AreAnswered, requests_in}
 use Rattle.kv_groups.specs.Batched.{in_hand}

@@ -1,5 +1,5 @@
 -- one more with nothing in hand
-use Rattle.std.proofs.Common.{◌≡◌, ℕ, subst, sym, arith}
+use Rattle.std.proofs.Common.{◌≡◌, subst, sym, arith}
 use Rattle.kv_groups.specs.Taking.{connection_of, new_connection}
 use Rattle.kv_groups.proofs.GatherLemmas.{all-new}
 use Rattle.kv_worker_party.proofs.party.new_connections.Goals as goal

@@ -1,6 +1,6 @@
 -- one task more has the refusal
-use Rattle.std.proofs.Common.{◌≡◌, ◌+◌, ◌<◌, ℕ, List, map, ap, sym, ◌∙◌, arith, refl, length, length-set}
-use Rattle.std.proofs.Common.{set, get_or}
+use Rattle.std.proofs.Common.{◌≡◌, ◌<◌, ℕ, List, map, sym, ◌∙◌, arith, refl, length, length-set}
+use Rattle.std.proofs.Common.{set}
 use Rattle.std.proofs.lemmas.List.{get_or-map, length-map}
 use Rattle.kv_base.specs.declared.reply.Reply.{Reply}
 use Rattle.kv_base.specs.declared.reply.Reply.TheVariants.{StampsSpent}

@@ -1,9 +1,7 @@
 -- a closed worker answers each so, and a counter without stamps too
-use Rattle.std.proofs.Common.{◌≡◌, ◌<◌, ◌≤◌, ◌+◌, ◌^◌, ◌⊎◌, inl, inr, [], Some, map, length, refl, sym, ap}
-use Rattle.std.proofs.Common.{◌∙◌, arith, true, false, subst, ℕ}
-use Rattle.std.proofs.lemmas.List.{length-map}
+use Rattle.std.proofs.Common.{◌≡◌, ◌⊎◌, inl, inr, [], Some, map, length, refl, sym, ap}
+use Rattle.std.proofs.Common.{◌∙◌, arith, true, false, subst}
 use Rattle.kv_base.specs.declared.reply.Reply.TheVariants.{Closed, StampsSpent}
-use Rattle.kv_ring.specs.declared.task.Task.{Task}
 use Rattle.kv_stamps.specs.Seats.{first_spent}
 use Rattle.kv_stamps.specs.Steps.{Draws, Spends}
 use Rattle.kv_worker.specs.Batches.{requests_in}

@@ -6,7 +6,7 @@ use Rattle.kv_session.specs.Passage.{Streams}
 use Rattle.kv_session_party.specs.Links.{told_to, heard_from, waiting_for}
 use Rattle.kv_session_party.specs.Promise.{IsServed, Tells}
 use Rattle.kv_session_party.specs.declared.routes.Place.{Place}
-use Rattle.kv_session_party.proofs.PartyLemmas.{away-received}
+use Rattle.kv_session_party.proofs.PartyLemmas.{away-received, full-received}
 use Rattle.kv_session_party.proofs.TaleLemmas.{Tells-received}
 use Rattle.kv_session_party.proofs.party.SessionParty.take_answers.Goals as goal
 
@@ -49,3 +49,7 @@ invariant_of-self g c =
           old.first.value.sink old.session (told_to old.links) (heard_from old.links) old.seen
           old.routes w) c.requires.waits t)));
     }
+
+pub returns-clause-full : goal.returns-clause-full
+returns-clause-full g c = full-received c.args.self.now.links c.receive.new.links
+    c.args.self.now.routes c.receive.new.routes c.receive.result c.receive.ensures

@@ -48,7 +48,7 @@ returns-clause-waits g c = λ waiting. record {
   came = c.go_on-moved.result;
   pushes = c.push-pushed.ensures.pushed;
   waits = c.go_on-moved.ensures.waits waiting;
-  result_is = c.of.ensures ∙ ap (λ b. turn_of b c.either.result) c.is_over.ensures
+  result_is = c.of.ensures ∙ ap (λ b. turn_of b c.either.result) c.ended.ensures.value
       ∙ ap (turn_of _) (c.either.ensures
       ∙ ap (λ b. b || c.go_on-moved.result) c.push-pushed.ensures.moved);
 }

@@ -1,7 +1,6 @@
 -- nothing is done yet
-use Rattle.std.proofs.Common.{◌≡◌, arith, subst, sym, ap, length}
+use Rattle.std.proofs.Common.{arith, ap, length}
 use Rattle.std.proofs.lemmas.Grind.{merely}
-use Rattle.kv_worker_party.specs.Party.{Holds, BeginsWith}
 use Rattle.kv_worker_party.proofs.PartyLemmas.{idle-to, gone-first, first-holds}
 use Rattle.kv_worker_party.proofs.party.WorkerParty.new.Goals as goal
 

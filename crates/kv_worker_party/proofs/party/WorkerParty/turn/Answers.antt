@@ -9,7 +9,7 @@ returns-clause-goes_on g c =
     goes-from c.party_laws.ensures g.D.Disk g.I.Index old.first.value old.worker
     c.exchange.new.worker old.ends c.exchange.new.ends old.connections.items
     c.exchange.new.connections.items old.seat.view c.exchange.new.seat.view old.lifted
-    c.exchange.result old.started old.promise c.exchange.ensures.turned
+    c.exchange.result old.started c.exchange.ensures.turned
 
 pub invariant_of-self : goal.invariant_of-self
 invariant_of-self g c =

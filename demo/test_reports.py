@@ -65,8 +65,12 @@ class Reports(unittest.TestCase):
         self.assertEqual(taken, (3, "", "kvell: session 0: cannot be taken\n"))
 
     def test_other_words_are_told_the_usage(self):
-        for words in [(), ("serve",), ("check", "D", "17"), ("dump", "", "1"), ("check", b"\xff", "1")]:
+        serves = [("serve", self.folder, "1", *ends) for ends in (["-"], ["-"] * 4, ["x"] * 18)]
+        serves += [("serve", self.folder, workers, "-", "-") for workers in ("0", "17")]
+        others = [(), ("serve",), ("check", "D", "17"), ("dump", "", "1"), ("check", b"\xff", "1")]
+        for words in others + serves:
             self.assertEqual(kvell(*words), (2, "", USAGE))
+        self.assertFalse(os.path.exists(self.folder))
 
     def test_an_input_that_is_cut_off_is_told(self):
         told = kvell("serve", self.folder, "1", "-", "-", typed=put(b"a", b"1") + b"\x04")

@@ -85,9 +85,10 @@ class Run:
         return replies_in(bytes(self.data))
 
 
-def ask(folder: str, requests: bytes) -> tuple[int, list[tuple[int, bytes]]]:
+def ask(folder: str, requests: bytes, workers: int = 1) -> tuple[int, list[tuple[int, bytes]]]:
     """The status and the replies of a run over these requests."""
-    done = subprocess.run([PROGRAM, "serve", folder, "1", "-", "-"], input=requests, capture_output=True, timeout=60)
+    words = [PROGRAM, "serve", folder, str(workers), "-", "-"]
+    done = subprocess.run(words, input=requests, capture_output=True, timeout=60)
     return done.returncode, replies_in(done.stdout)
 
 

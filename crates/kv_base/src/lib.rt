@@ -19,8 +19,6 @@ mod sink;
 mod sink_memory;
 mod source;
 mod source_memory;
-#[cfg(test)]
-mod tests;
 
 pub use adapters::{ReaderSource, WriterSink};
 pub use bytes::Bytes;

@@ -8,8 +8,6 @@ mod memory;
 mod order;
 mod plain;
 mod replay;
-#[cfg(test)]
-mod tests;
 
 pub use disk::Disk;
 pub use memory::MemDisk;

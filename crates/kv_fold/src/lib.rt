@@ -9,8 +9,6 @@ mod laws;
 mod merging;
 mod result_bytes;
 mod sums;
-#[cfg(test)]
-mod tests;
 
 pub use any::AnyFold;
 pub use first::First;

@@ -9,8 +9,6 @@ mod owned;
 mod parse;
 mod put;
 mod replies;
-#[cfg(test)]
-mod tests;
 mod view;
 
 pub use kv_base::{Reply, Request};

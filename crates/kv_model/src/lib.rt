@@ -5,8 +5,6 @@ mod batch;
 mod class;
 mod found;
 mod image;
-#[cfg(test)]
-mod image_tests;
 mod item;
 mod lasts;
 mod latest;
@@ -17,8 +15,6 @@ mod page;
 mod range;
 mod slot;
 mod stored;
-#[cfg(test)]
-mod tests;
 mod write;
 
 pub use image::PlainImage;

@@ -19,6 +19,7 @@ use Rattle.kv_slab.specs.View.{View}
 use Rattle.kv_recover.specs.Found.{copy_of}
 use Rattle.kv_recover.specs.Freed.{KeepsSame}
 use Rattle.kv_recover.specs.Opened.{HasFoundStore}
+use Rattle.kv_recover.specs.Placed.{AreOwned}
 use Rattle.kv_recover.specs.Writes.{HasWrites}
 use Rattle.kv_recover.proofs.EntryLemmas.{option_cases}
 use Rattle.kv_recover.proofs.FreedLemmas.{one_copy_place}
@@ -129,11 +130,12 @@ pub has-writes : {D I : Type 0} (d : disks.Ghosts D) (i : indexes.Ghosts I) (old
     (worker workers : ℕ) (store : View D I) (floor : ℕ)
     → ((key : List ℕ) (entry : Entry) → finite.get (i.entries store.index) key ≡ Some entry
     → entry.stamp ≤ floor)
+    → AreOwned (i.entries store.index) worker workers
     → (IsTrue d.tells → HasFoundStore (d.seen old) worker workers (i.entries store.index) floor)
     → (IsTrue d.tells → KeepsSame (slot_at all_classes (d.seen old)) worker workers
     (slot_at all_classes (d.seen store.disk.disk)))
     → HasWrites d i old worker workers store floor
-has-writes d i old worker workers store floor low found same =
+has-writes d i old worker workers store floor low owned found same =
     let reading : Reading = slot_at all_classes (d.seen old) in
     let entries : Entries = i.entries store.index in
     record {
@@ -143,6 +145,9 @@ has-writes d i old worker workers store floor low found same =
       entries = λ write has.
           let one = entry-of reading entries floor low write has in
           (one.0, one.1, ap (λ w. w.stamp) one.2);
+      owned = λ write has.
+          let one = entry-of reading entries floor low write has in
+          owned write.key one.0 one.1;
       keys = keys-are reading entries floor low;
       kept = λ tells. writes-kept (d.seen old) worker workers entries floor low (found tells);
       keeps_each = λ tells. each-kept (d.seen old) worker workers entries floor low (found tells);

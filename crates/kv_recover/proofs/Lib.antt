@@ -15,6 +15,7 @@ pub mod FrontLemmas
 pub mod LaterLemmas
 pub mod CountLemmas
 pub mod PlacedLemmas
+pub mod OwnedLemmas
 pub mod FreeLargeLemmas
 pub mod OpenedLemmas
 pub mod ListedLemmas

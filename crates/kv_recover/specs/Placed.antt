@@ -1,7 +1,9 @@
--- What an index has on every disk: where its entries are, and how many there are of each class.
+-- What an index has on every disk: who owns its keys, where its entries are, and how many there are
+-- of each class.
 use Rattle.std.specs.Prelude.{◌≡◌, ℕ, ◌+◌, ◌-◌, ◌^◌, ◌<◌, ◌≤◌, ◌==◌, List, length, slice_get, slice_index, Option, None, Some}
 use Rattle.std.specs.Prelude.{if◌then◌else◌}
 use Rattle.std.specs.FinMap as finite
+use Rattle.kv_base.specs.Partition.{owner_of}
 use Rattle.kv_index.specs.declared.entry.Entry.{Entry}
 use Rattle.kv_free.specs.FreeList.{Tail}
 use Rattle.kv_index.specs.Entries.{Entries}
@@ -30,6 +32,11 @@ pub record IsPlaced (floor : ℕ) (ends : ℕ → ℕ) (entry : Entry) : Type 0 
 abbrev pub ArePlaced : Entries → ℕ → (ℕ → ℕ) → Type 0
 ArePlaced entries floor ends = (key : List ℕ) (entry : Entry) → finite.get entries key ≡ Some entry
     → IsPlaced floor ends entry
+
+-- each key is one that the worker owns
+abbrev pub AreOwned : Entries → ℕ → ℕ → Type 0
+AreOwned entries worker workers = (key : List ℕ) (entry : Entry)
+    → finite.get entries key ≡ Some entry → owner_of key workers ≡ worker
 
 -- the ends with that of one class
 abbrev pub with_end : (ℕ → ℕ) → ℕ → ℕ → ℕ → ℕ

@@ -3,6 +3,7 @@ use Rattle.std.specs.Prelude.{◌≡◌, ◌≢◌, ℕ, ◌≤◌, List, Some, 
 use Rattle.std.specs.List.{AllByRecursion}
 use Rattle.std.specs.Option.{option_map}
 use Rattle.std.specs.FinMap as finite
+use Rattle.kv_base.specs.Partition.{owner_of}
 use Rattle.kv_disk.specs.declared.disk.Disk as disks
 use Rattle.kv_index.specs.declared.entry.Entry.{Entry}
 use Rattle.kv_index.specs.declared.index.Index as indexes
@@ -15,8 +16,9 @@ use Rattle.kv_model.specs.Recovery.{AreKept, KeepsEach}
 use Rattle.kv_slab.specs.View.{View, store_map}
 
 -- the writes stand for the store's items: one for each key of its index, with the stamp of its
--- entry, none above the floor; on a disk that tells what it reads they are the items that were kept
--- on the disk that was handed in, the store has their values, and each entry the class of its item
+-- entry, none above the floor, each of a key that the worker owns; on a disk that tells what
+-- it reads they are the items that were kept on the disk that was handed in, the store has their
+-- values, and each entry the class of its item
 pub record HasWrites {D I : Type 0} (d : disks.Ghosts D) (i : indexes.Ghosts I) (old : D)
     (worker workers : ℕ) (store : View D I) (floor : ℕ) : Type 0 where
   pub writes : List Write
@@ -25,6 +27,7 @@ pub record HasWrites {D I : Type 0} (d : disks.Ghosts D) (i : indexes.Ghosts I) 
   pub entries : (write : Write) → Contains writes write → (entry : Entry)
       × (finite.get (i.entries store.index) write.key ≡ Some entry)
       × (write.stamp ≡ entry.stamp)
+  pub owned : (write : Write) → Contains writes write → owner_of write.key workers ≡ worker
   pub keys : (key : List ℕ) → is_some (value_at writes floor key)
       ≡ is_some (finite.get (i.entries store.index) key)
   pub kept : IsTrue d.tells → AreKept all_classes (d.seen old) worker workers writes

@@ -5,7 +5,7 @@ ghost use Rattle.kv_model.specs.Layout.{slots_in_page};
 ghost use Rattle.kv_model.specs.Recovery.{most_pages};
 ghost use Rattle.std.specs.Prelude.{slice_index, max};
 ghost use Rattle.std.specs.FinMap as finite;
-ghost use Rattle.kv_recover.specs.Placed.{HasCounts, ArePlaced, with_end};
+ghost use Rattle.kv_recover.specs.Placed.{HasCounts, ArePlaced, AreOwned, with_end};
 ghost use Rattle.kv_recover.specs.Pass.{HasFound, HasFoundBelow, IsPast, FindsClass, FindsBelow};
 ghost use Rattle.kv_disk.specs.Steps.{OnlyReads};
 ghost use Rattle.kv_recover.specs.Causes.{HasReadCause, HasCheckCause};
@@ -52,6 +52,7 @@ fn find_in_page<D: Disk, I: Index>(
     requires behind { seen.end ≤ number * slots_in_page class }
     requires share { (1 ≤ share.workers) × (share.workers ≤ 16) }
     requires counted { HasCounts (I.entries items.old.index) items.old.counts }
+    requires owned { AreOwned (I.entries items.old.index) share.worker share.workers }
     ensures reads { OnlyReads ⟦<D as Disk>⟧ disk.old disk.new }
     ensures found { IsTrue D.tells → IfOk result (λ now.
         HasFound (D.seen disk.old) share.worker share.workers class (number * slots_in_page class)
@@ -63,6 +64,8 @@ fn find_in_page<D: Disk, I: Index>(
         seen.floor (with_end ends class seen.end) → ArePlaced (I.entries items.new.index) now.floor
         (with_end ends class now.end)) }
     ensures counted { OnOk result (HasCounts (I.entries items.new.index) items.new.counts) }
+    ensures owned { OnOk result (AreOwned (I.entries items.new.index) share.worker
+        share.workers) }
     ensures cause { IfErr result (HasReadCause ⊥) }
     ensures faults { AreFaultsCounted (D.faults disk.old) (D.faults disk.new) result }
     ensures whole { IsTrue D.tells → OnOk result (length (D.seen disk.old class number)
@@ -87,6 +90,7 @@ fn find_in_pages<D: Disk, I: Index>(
     requires pages { pages * slots_in_page class ≤ 2 ^ 24 }
     requires share { (1 ≤ share.workers) × (share.workers ≤ 16) }
     requires counted { HasCounts (I.entries items.old.index) items.old.counts }
+    requires owned { AreOwned (I.entries items.old.index) share.worker share.workers }
     ensures reads { OnlyReads ⟦<D as Disk>⟧ disk.old disk.new }
     ensures found { IsTrue D.tells → IfOk result (λ now.
         HasFound (D.seen disk.old) share.worker share.workers class 0 (I.entries items.old.index) floor 0
@@ -97,6 +101,8 @@ fn find_in_pages<D: Disk, I: Index>(
         floor (with_end ends class 0) → ArePlaced (I.entries items.new.index) now.floor
         (with_end ends class now.end)) }
     ensures counted { OnOk result (HasCounts (I.entries items.new.index) items.new.counts) }
+    ensures owned { OnOk result (AreOwned (I.entries items.new.index) share.worker
+        share.workers) }
     ensures cause { IfErr result (HasReadCause ⊥) }
     ensures faults { AreFaultsCounted (D.faults disk.old) (D.faults disk.new) result }
     ensures whole { IsTrue D.tells → OnOk result ((page : ℕ) → page < pages
@@ -142,6 +148,7 @@ pub fn find_class<D: Disk, I: Index>(
     requires class { (1 ≤ class) × (class ≤ 7) }
     requires share { (1 ≤ share.workers) × (share.workers ≤ 16) }
     requires counted { HasCounts (I.entries items.old.index) items.old.counts }
+    requires owned { AreOwned (I.entries items.old.index) share.worker share.workers }
     ensures reads { OnlyReads ⟦<D as Disk>⟧ disk.old disk.new }
     ensures found { IsTrue D.tells → IfOk result (λ now.
         FindsClass (D.seen disk.old) share.worker share.workers class (I.entries items.old.index)
@@ -151,6 +158,8 @@ pub fn find_class<D: Disk, I: Index>(
         floor (with_end ends class 0) → ArePlaced (I.entries items.new.index) now.floor
         (with_end ends class now.end)) }
     ensures counted { OnOk result (HasCounts (I.entries items.new.index) items.new.counts) }
+    ensures owned { OnOk result (AreOwned (I.entries items.new.index) share.worker
+        share.workers) }
     ensures cause { IfErr result (HasReadCause (IsTrue D.tells → IsPast (D.seen disk.old) class)) }
     ensures faults { AreFaultsCounted (D.faults disk.old) (D.faults disk.new) result }
 {
@@ -190,6 +199,8 @@ pub fn find_small<D: Disk, I: Index>(
         → slice_index found.ends class ≡ 0) }
     ensures zero { IfOk result (λ found. slice_index found.ends 0 ≡ 0) }
     ensures counted { OnOk result (HasCounts (I.entries items.new.index) items.new.counts) }
+    ensures owned { OnOk result (AreOwned (I.entries items.new.index) share.worker
+        share.workers) }
     ensures cause { IfErr result (HasReadCause (IsTrue D.tells → (class : ℕ) × (1 ≤ class)
         × (class ≤ 7) × IsPast (D.seen disk.old) class)) }
     ensures faults { AreFaultsCounted (D.faults disk.old) (D.faults disk.new) result }

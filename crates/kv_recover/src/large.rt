@@ -15,7 +15,7 @@ ghost use Rattle.kv_recover.specs.Found.{with_slot};
 ghost use Rattle.kv_recover.specs.Large.{IsLater, slot_from, IsWholeSlot, HasFoundLarge};
 ghost use Rattle.kv_recover.specs.Large.{FindsLargeClass};
 ghost use Rattle.kv_recover.specs.Pass.{IsPast};
-ghost use Rattle.kv_recover.specs.Placed.{HasCounts, ArePlaced, with_end};
+ghost use Rattle.kv_recover.specs.Placed.{HasCounts, ArePlaced, AreOwned, with_end};
 
 use crate::fault::OpenFault;
 use crate::find::check_blanks;
@@ -150,6 +150,7 @@ fn see_large<I: Index>(
     requires stamp { stamp_field page.now ≤ later.floor }
     requires share { (1 ≤ share.workers) × (share.workers ≤ 16) }
     requires counted { HasCounts (I.entries items.old.index) items.old.counts }
+    requires owned { AreOwned (I.entries items.old.index) share.worker share.workers }
     ensures found { IfOk result (λ now. (image : Image) (floor : ℕ) (pages : List (List ℕ))
         → large_slot image place.class place.slot ≡ page.now ∷ pages
         → IsLater pages (stamp_field page.now) (max floor (stamp_field page.now)) later.whole
@@ -163,6 +164,8 @@ fn see_large<I: Index>(
         → ArePlaced (I.entries items.old.index) floor (with_end ends place.class end)
         → ArePlaced (I.entries items.new.index) now.floor (with_end ends place.class now.end)) }
     ensures counted { OnOk result (HasCounts (I.entries items.new.index) items.new.counts) }
+    ensures owned { OnOk result (AreOwned (I.entries items.new.index) share.worker
+        share.workers) }
 {
     see_first(alloc, items, share, page, later.whole, place)?;
     let end = if still_blank(later.blank, page) {
@@ -190,6 +193,7 @@ fn find_large_at<D: Disk, I: Index>(
     requires behind { seen.end ≤ place.slot }
     requires share { (1 ≤ share.workers) × (share.workers ≤ 16) }
     requires counted { HasCounts (I.entries items.old.index) items.old.counts }
+    requires owned { AreOwned (I.entries items.old.index) share.worker share.workers }
     ensures reads { OnlyReads ⟦<D as Disk>⟧ disk.old disk.new }
     ensures found { IsTrue D.tells → IfOk result (λ now.
         HasFoundLarge (D.seen disk.old) share.worker share.workers place.class place.slot
@@ -201,6 +205,8 @@ fn find_large_at<D: Disk, I: Index>(
         seen.floor (with_end ends place.class seen.end) → ArePlaced (I.entries items.new.index)
         now.floor (with_end ends place.class now.end)) }
     ensures counted { OnOk result (HasCounts (I.entries items.new.index) items.new.counts) }
+    ensures owned { OnOk result (AreOwned (I.entries items.new.index) share.worker
+        share.workers) }
     ensures cause { IfErr result (HasReadCause ⊥) }
     ensures faults { AreFaultsCounted (D.faults disk.old) (D.faults disk.new) result }
     ensures whole { IsTrue D.tells → OnOk result (IsWholeSlot (D.seen disk.old) place.class
@@ -230,6 +236,7 @@ fn find_large_slots<D: Disk, I: Index>(
     requires slots { slots ≤ 2 ^ 24 }
     requires share { (1 ≤ share.workers) × (share.workers ≤ 16) }
     requires counted { HasCounts (I.entries items.old.index) items.old.counts }
+    requires owned { AreOwned (I.entries items.old.index) share.worker share.workers }
     ensures reads { OnlyReads ⟦<D as Disk>⟧ disk.old disk.new }
     ensures found { IsTrue D.tells → IfOk result (λ now.
         HasFoundLarge (D.seen disk.old) share.worker share.workers class 0 (I.entries items.old.index)
@@ -241,6 +248,8 @@ fn find_large_slots<D: Disk, I: Index>(
         floor (with_end ends class 0) → ArePlaced (I.entries items.new.index) now.floor
         (with_end ends class now.end)) }
     ensures counted { OnOk result (HasCounts (I.entries items.new.index) items.new.counts) }
+    ensures owned { OnOk result (AreOwned (I.entries items.new.index) share.worker
+        share.workers) }
     ensures cause { IfErr result (HasReadCause ⊥) }
     ensures faults { AreFaultsCounted (D.faults disk.old) (D.faults disk.new) result }
     ensures whole { IsTrue D.tells → OnOk result ((slot : ℕ) → slot < slots
@@ -290,6 +299,7 @@ pub fn find_large_class<D: Disk, I: Index>(
     requires class { (8 ≤ class) × (class ≤ 11) }
     requires share { (1 ≤ share.workers) × (share.workers ≤ 16) }
     requires counted { HasCounts (I.entries items.old.index) items.old.counts }
+    requires owned { AreOwned (I.entries items.old.index) share.worker share.workers }
     ensures reads { OnlyReads ⟦<D as Disk>⟧ disk.old disk.new }
     ensures found { IsTrue D.tells → IfOk result (λ now.
         FindsLargeClass (D.seen disk.old) share.worker share.workers class (I.entries items.old.index)
@@ -299,6 +309,8 @@ pub fn find_large_class<D: Disk, I: Index>(
         floor (with_end ends class 0) → ArePlaced (I.entries items.new.index) now.floor
         (with_end ends class now.end)) }
     ensures counted { OnOk result (HasCounts (I.entries items.new.index) items.new.counts) }
+    ensures owned { OnOk result (AreOwned (I.entries items.new.index) share.worker
+        share.workers) }
     ensures cause { IfErr result (HasReadCause (IsTrue D.tells → IsPast (D.seen disk.old) class)) }
     ensures faults { AreFaultsCounted (D.faults disk.old) (D.faults disk.new) result }
 {

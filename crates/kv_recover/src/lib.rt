@@ -1,8 +1,6 @@
 //! Opening a disk: what is kept on it is found, and every other slot is freed.
 #![tactic(auto)]
 
-#[cfg(test)]
-mod comparison_tests;
 mod entries;
 mod fault;
 mod find;
@@ -29,6 +27,3 @@ pub use listing::kept;
 pub use opening::{Opened, open_store};
 pub use surveying::survey;
 pub use value::read_value;
-
-#[cfg(test)]
-mod tests;

@@ -15,7 +15,7 @@ ghost use Rattle.kv_recover.specs.FreeLarge.{AnyMayBeFreed, FreesAnyBelow, Entri
 ghost use Rattle.kv_recover.specs.Opened.{FindsAllBelow, KeepsSlabs, IsOpenedStore, HasFoundStore};
 ghost use Rattle.kv_recover.specs.Opened.{KeepsStore, LeftOrKept};
 ghost use Rattle.kv_recover.specs.Pass.{IsPast};
-ghost use Rattle.kv_recover.specs.Placed.{HasCounts, ArePlaced, HasRooms};
+ghost use Rattle.kv_recover.specs.Placed.{HasCounts, ArePlaced, AreOwned, HasRooms};
 ghost use Rattle.kv_free.specs.FreeList.{Tail};
 ghost use Rattle.std.specs.Prelude.{◌+◌, Some, length, slice_get};
 
@@ -65,6 +65,8 @@ pub fn find_all<D: Disk, I: Index>(
         (λ class. slice_index found.ends class)) }
     ensures zero { IfOk result (λ found. slice_index found.ends 0 ≡ 0) }
     ensures counted { OnOk result (HasCounts (I.entries items.new.index) items.new.counts) }
+    ensures owned { OnOk result (AreOwned (I.entries items.new.index) share.worker
+        share.workers) }
     ensures cause { IfErr result (HasReadCause (IsTrue D.tells → (class : ℕ) × (1 ≤ class)
         × (class ≤ 11) × IsPast (D.seen disk.old) class)) }
     ensures faults { AreFaultsCounted (D.faults disk.old) (D.faults disk.new) result }
@@ -164,6 +166,8 @@ pub fn open_slabs<D: Disk, I: Index>(
     ensures durable { OnOk result (Only (D.seen disk.new) (D.leaves disk.new (D.calls disk.new))) }
     ensures rooms { IfOk result (λ opened. HasRooms (I.entries items.new.index) opened.floor
         opened.ends opened.stacks.items) }
+    ensures owned { OnOk result (AreOwned (I.entries items.new.index) share.worker
+        share.workers) }
 
     // crashes and refusals
     ensures any_moment { LeavesOnly (D.calls disk.old) (D.calls disk.new) (D.leaves disk.old)
@@ -215,6 +219,8 @@ pub fn open_parts<D: Disk, I: Index>(
     ensures durable { OnOk result (Only (D.seen disk.new) (D.leaves disk.new (D.calls disk.new))) }
     ensures rooms { IfOk result (λ opened. HasRooms (I.entries items.new.index) opened.floor
         opened.ends opened.stacks.items) }
+    ensures owned { OnOk result (AreOwned (I.entries items.new.index) share.worker
+        share.workers) }
 
     // crashes and refusals
     ensures any_moment { LeavesOnly (D.calls disk.old) (D.calls disk.new) (D.leaves disk.old)

@@ -10,8 +10,6 @@ mod message;
 mod rings;
 mod side;
 mod task;
-#[cfg(test)]
-mod tests;
 mod turn;
 
 pub use ends::{Ends, SessionEnds, WorkerEnds};

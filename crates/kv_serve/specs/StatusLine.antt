@@ -70,6 +70,7 @@ abbrev pub refusal_text : Option Refused → Option (List ℕ)
 refusal_text None = None
 refusal_text (Some refused) = Some (refused_text refused)
 
+-- the text of words that are no command
 abbrev pub usage_text : List ℕ
 usage_text = codes "kvell: usage: serve DIR N IN OUT [IN OUT ..] / check DIR N / dump DIR N / try SEED COUNT N"
 

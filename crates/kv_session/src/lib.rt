@@ -10,8 +10,6 @@ mod pieces;
 mod reader;
 mod refusal;
 mod session;
-#[cfg(test)]
-mod tests;
 mod window;
 
 pub use ending::{Ending, SessionParts};

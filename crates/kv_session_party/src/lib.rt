@@ -10,8 +10,6 @@ mod party;
 mod reply;
 mod routes;
 mod send;
-#[cfg(test)]
-mod tests;
 
 pub use laws::session_parties_cross_threads;
 pub use party::{PartyParts, SessionParty};

@@ -15,8 +15,6 @@ mod page_file;
 mod page_io;
 mod site;
 mod take_counter;
-#[cfg(test)]
-mod tests;
 
 pub use ends::{Input, Output};
 pub use fault::TakeFault;

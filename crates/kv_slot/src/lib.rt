@@ -20,6 +20,3 @@ pub use large::{Large, PageList, put_large, read_first, read_large};
 pub use laws::{large_slots_read_again, slots_read_again, slots_stay_in_place};
 pub use small::{Slot, put_fitting, put_item, read_fitting, read_slot};
 pub use tombstone::{link_of, page_stamp, put_tombstone};
-
-#[cfg(test)]
-mod tests;

@@ -5,8 +5,6 @@ mod counter;
 mod laws;
 mod seat;
 mod spent;
-#[cfg(test)]
-mod tests;
 mod view;
 
 pub use counter::Stamps;

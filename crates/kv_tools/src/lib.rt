@@ -13,6 +13,3 @@ mod text;
 pub use check::check_all;
 pub use dump::dump_all;
 pub use fault::ToolFault;
-
-#[cfg(test)]
-mod tests;

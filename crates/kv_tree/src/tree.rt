@@ -87,6 +87,3 @@ impl Index for TreeIndex {
         }
     }
 }
-
-#[cfg(test)]
-mod tests;

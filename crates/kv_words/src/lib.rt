@@ -3,7 +3,5 @@
 
 mod said;
 mod words;
-#[cfg(test)]
-mod words_tests;
 
 pub use words::{Command, WordsFault, read_words};

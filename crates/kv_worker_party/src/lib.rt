@@ -5,8 +5,6 @@ mod exchange;
 mod laws;
 mod party;
 mod serve;
-#[cfg(test)]
-mod tests;
 
 pub use laws::{due_messages_are_taken, worker_parties_cross_threads};
 pub use party::{WorkerParts, WorkerParty};

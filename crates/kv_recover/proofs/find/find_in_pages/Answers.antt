@@ -23,6 +23,7 @@ loop-number-preserved g c = record {
   placed = λ ends placed. c.in_ok-seen.ensures.placed ends
       (c.loop-number.invariant.placed ends placed);
   counted = c.in_ok-seen.ensures.counted;
+  owned = c.in_ok-seen.ensures.owned;
   found = λ tells start.
       let same = c.loop-number.invariant.reads.seen tells in
       let next = c.in_ok-seen.ensures.found tells in

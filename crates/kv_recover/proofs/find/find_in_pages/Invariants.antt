@@ -2,7 +2,7 @@
 use Rattle.std.proofs.Common.{◌≡◌, ℕ, ◌*◌, ◌≤◌, IsTrue, length, ◌<◌}
 use Rattle.kv_model.specs.Layout.{slots_in_page}
 use Rattle.kv_recover.specs.Pass.{HasFound}
-use Rattle.kv_recover.specs.Placed.{HasCounts, ArePlaced, with_end}
+use Rattle.kv_recover.specs.Placed.{HasCounts, ArePlaced, AreOwned, with_end}
 use Rattle.kv_disk.specs.Steps.{OnlyReads}
 use Rattle.kv_recover.proofs.find.find_in_pages.Given as goal
 use Rattle.kv_base.specs.Image.{page_size}
@@ -19,6 +19,7 @@ invariant-loop-number g l = record {
       → ArePlaced (g.I.Index.entries l.items.index) l.seen.floor
       (with_end ends l.class l.seen.end);
   counted : HasCounts (g.I.Index.entries l.items.index) l.items.counts;
+  owned : AreOwned (g.I.Index.entries l.items.index) l.share.worker l.share.workers;
   found : IsTrue g.D.Disk.tells
       → HasFound (g.D.Disk.seen l.initial.disk) l.share.worker l.share.workers l.class 0
       (g.I.Index.entries l.initial.items.index) l.floor 0

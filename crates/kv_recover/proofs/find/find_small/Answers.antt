@@ -2,6 +2,7 @@
 use Rattle.std.proofs.Common.{◌≡◌, ℕ, get_or, get_or-set_other, length-set, refl, ◌∙◌, subst, arith}
 use Rattle.kv_recover.specs.Pass.{FindsBelow, FindsClass}
 use Rattle.kv_recover.proofs.SlabLemmas.{zero_at}
+use Rattle.kv_recover.proofs.OwnedLemmas.{owned-none}
 use Rattle.kv_recover.proofs.PlacedLemmas.{placed-none, placed-begin, placed-end, ends-rest}
 use Rattle.kv_recover.proofs.FindLemmas.{finds-start, finds-next, ends-next}
 use Rattle.kv_disk.proofs.StepsLemmas.{reads-none, reads-then}
@@ -17,6 +18,8 @@ loop-class-init g c = record {
   rest = λ class from. zero_at 12 class;
   placed = placed-none (g.I.Index.entries c.args.items.now.index) 0 _ c.requires.none;
   counted = c.requires.counted;
+  owned = owned-none (g.I.Index.entries c.args.items.now.index) c.args.share.worker
+      c.args.share.workers c.requires.none;
   found = λ tells. finds-start (g.D.Disk.seen c.args.disk.now) c.args.share.worker
       c.args.share.workers (g.I.Index.entries c.args.items.now.index) _ c.requires.none;
 }
@@ -49,6 +52,7 @@ loop-class-preserved g c =
           c.loop-class.class c.loop-class.ends (c.loop-class.invariant.rest c.loop-class.class
           (omega arith)) c.loop-class.invariant.placed));
       counted = c.in_ok-seen.ensures.counted;
+      owned = c.in_ok-seen.ensures.owned;
       found = λ tells. finds-next (g.D.Disk.seen c.args.disk.now) c.args.share.worker
           c.args.share.workers c.loop-class.class _ _ c.loop-class.floor c.in_ok-seen.seen.floor
           c.in_ok-seen.seen.end c.loop-class.ends (omega (arith, size))

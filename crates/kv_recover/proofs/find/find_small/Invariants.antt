@@ -1,7 +1,7 @@
 -- The classes so far are seen.
 use Rattle.std.proofs.Common.{◌≡◌, ℕ, ◌≤◌, ◌^◌, IsTrue, length, get_or}
 use Rattle.kv_recover.specs.Pass.{FindsBelow}
-use Rattle.kv_recover.specs.Placed.{HasCounts, ArePlaced}
+use Rattle.kv_recover.specs.Placed.{HasCounts, ArePlaced, AreOwned}
 use Rattle.kv_disk.specs.Steps.{OnlyReads}
 use Rattle.kv_recover.proofs.find.find_small.Given as goal
 
@@ -15,6 +15,7 @@ invariant-loop-class g l = record {
   rest : (class : ℕ) → l.class ≤ class → get_or l.ends class 0 ≡ 0;
   placed : ArePlaced (g.I.Index.entries l.items.index) l.floor (λ c. get_or l.ends c 0);
   counted : HasCounts (g.I.Index.entries l.items.index) l.items.counts;
+  owned : AreOwned (g.I.Index.entries l.items.index) l.share.worker l.share.workers;
   found : IsTrue g.D.Disk.tells → FindsBelow (g.D.Disk.seen l.initial.disk) l.share.worker
       l.share.workers l.class (g.I.Index.entries l.items.index) l.floor l.ends;
 }

@@ -20,6 +20,7 @@ loop-slot-preserved g c = record {
   placed = λ ends placed. c.in_ok-seen.ensures.placed ends
       (c.loop-slot.invariant.placed ends placed);
   counted = c.in_ok-seen.ensures.counted;
+  owned = c.in_ok-seen.ensures.owned;
   found = λ tells start.
       subst (λ image. HasFoundLarge image c.args.share.worker c.args.share.workers c.args.class
       c.loop-slot.slot (g.I.Index.entries c.loop-slot.items.index) c.loop-slot.seen.floor

@@ -1,7 +1,7 @@
 -- The slots so far are seen.
 use Rattle.std.proofs.Common.{◌≡◌, ℕ, ◌≤◌, IsTrue, ◌<◌}
 use Rattle.kv_recover.specs.Large.{HasFoundLarge, IsWholeSlot}
-use Rattle.kv_recover.specs.Placed.{HasCounts, ArePlaced, with_end}
+use Rattle.kv_recover.specs.Placed.{HasCounts, ArePlaced, AreOwned, with_end}
 use Rattle.kv_disk.specs.Steps.{OnlyReads}
 use Rattle.kv_recover.proofs.large.find_large_slots.Given as goal
 
@@ -17,6 +17,7 @@ invariant-loop-slot g l = record {
       → ArePlaced (g.I.Index.entries l.items.index) l.seen.floor
       (with_end ends l.class l.seen.end);
   counted : HasCounts (g.I.Index.entries l.items.index) l.items.counts;
+  owned : AreOwned (g.I.Index.entries l.items.index) l.share.worker l.share.workers;
   found : IsTrue g.D.Disk.tells
       → HasFoundLarge (g.D.Disk.seen l.initial.disk) l.share.worker l.share.workers l.class 0
       (g.I.Index.entries l.initial.items.index) l.floor 0

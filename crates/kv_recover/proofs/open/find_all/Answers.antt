@@ -37,6 +37,7 @@ loop-class-preserved g c =
           c.loop-class.class c.loop-class.ends (c.loop-class.invariant.rest c.loop-class.class
           (omega arith)) c.loop-class.invariant.placed));
       counted = c.in_ok-seen.ensures.counted;
+      owned = c.in_ok-seen.ensures.owned;
       found = λ tells. all-next (g.D.Disk.seen c.args.disk.now) c.args.share.worker
           c.args.share.workers c.loop-class.class _ _ c.loop-class.floor c.in_ok-seen.seen.floor
           c.in_ok-seen.seen.end c.loop-class.ends (omega arith) (omega (arith, size))

@@ -25,7 +25,7 @@ returns-in-Ok-slabs_of-clause-ok g c =
           (c.in-Ok.ensures.opened tells);
       kept = has-writes g.D.Disk g.I.Index c.args.disk c.args.worker c.args.workers _
           c.in-Ok.parts.floor (λ key entry has. (rooms.placed key entry has).stamp)
-          c.in-Ok.ensures.found (λ tells. (c.in-Ok.ensures.same tells).kept);
+          c.in-Ok.ensures.owned c.in-Ok.ensures.found (λ tells. (c.in-Ok.ensures.same tells).kept);
       keeps = c.in-Ok.ensures.same;
       durable = c.in-Ok.ensures.durable;
       any_moment = c.open_parts.ensures.any_moment;

@@ -1,0 +1,4 @@
+pub mod ContinuingLemmas
+pub mod RosterLemmas
+pub mod SeatLemmas
+pub mod ZipLemmas

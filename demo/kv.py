@@ -10,6 +10,7 @@ commands from FILE, or from standard input. A line is a command, or empty, or a 
     put KEY @FILE      gives KEY what stands in FILE (a value that begins with @ is written @@)
     get KEY            asks for the value of KEY
     del KEY            takes the value of KEY away
+    after STAMP        asks that each later stamp be above this one, which some reply told
 
 Words are quoted as in a shell: put 'a key' "two words". The commands of FILE are sent without waiting for replies, in
 groups as large as kvell takes; behind each line of standard input goes a Flush, so that its reply comes at once, and at
@@ -66,10 +67,17 @@ def delete_content(key: str) -> bytes:
     return b"\x03" + raw(key)
 
 
+def after_content(stamp: str) -> bytes:
+    if not stamp.isascii() or not stamp.isdigit() or int(stamp) >= 1 << 64:
+        raise BadLine("a stamp is a number below 2^64")
+    return b"\x06" + struct.pack("<Q", int(stamp))
+
+
 COMMANDS = {
     "put": Command("put KEY VALUE", 2, put_content),
     "get": Command("get KEY", 1, get_content),
     "del": Command("del KEY", 1, delete_content),
+    "after": Command("after STAMP", 1, after_content),
 }
 
 FLUSH = struct.pack("<IB", 1, 0x05)  # ends a group, whose replies are then written
@@ -130,6 +138,7 @@ REPLIES = {
     0x83: lambda body: f"missing at {stamp_of(body)}",
     0x84: lambda body: f"removed at {stamp_of(body)}",
     0x85: lambda body: f"absent at {stamp_of(body)}",
+    0x87: lambda body: "noted: later stamps are above it",
     0xE1: lambda body: "refused: a key has 1 to 255 bytes",
     0xE2: lambda body: "refused: key and value have more than 65,400 bytes together",
     0xE3: lambda body: f"refused: each slot of class {body[0]} is taken",
@@ -139,6 +148,7 @@ REPLIES = {
     0xE7: lambda body: "refused: the store is closed, since an earlier change is unsure; open it again",
     0xE8: lambda body: f"refused: no stamp is left; the next would be {stamp_of(body)}",
     0xE9: lambda body: f"the bytes at {stamp_of(body)} are no request; nothing behind them was read",
+    0xEA: lambda body: f"refused: no stamp from {stamp_of(body)} on was given so far",
 }
 
 STATUSES = {

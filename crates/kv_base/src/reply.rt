@@ -30,6 +30,8 @@ pub enum Reply {
         /// The stamp of the request.
         stamp: u64,
     },
+    /// Each later stamp of the session is above that of the `After`.
+    Noted,
     /// The key has no byte or more than 255.
     BadKey,
     /// Key and value together are larger than the largest class.
@@ -59,5 +61,10 @@ pub enum Reply {
     Malformed {
         /// How many bytes of the session stand before them.
         offset: u64,
+    },
+    /// The stamp of an `After` was given to nobody yet. Nothing changed.
+    Ahead {
+        /// The next stamp, or 2^62 where none is left; that of the `After` is this or above.
+        number: u64,
     },
 }

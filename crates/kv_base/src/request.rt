@@ -23,4 +23,9 @@ pub enum Request {
     },
     /// Ends a group of requests, whose replies are then written. It has no reply of its own.
     Flush,
+    /// Asks that each later stamp of the session be above this one. It is a group by itself.
+    After {
+        /// A stamp that the client was told of, else the reply is `Ahead`.
+        stamp: u64,
+    },
 }

@@ -1,4 +1,5 @@
 pub mod FramingLemmas
+pub mod NumberLemmas
 pub mod CodeLemmas
 pub mod RequestLemmas
 pub mod ReplyLemmas

@@ -3,26 +3,26 @@ use Rattle.std.proofs.Common.{◌≡◌, ℕ, suc, ◌+◌, ◌^◌, ◌<◌, �
 use Rattle.std.proofs.Common.{length, take, drop, Option, Some, None, Result, Ok, Err, inl, inr}
 use Rattle.std.proofs.Common.{refl, sym, ap, subst, ◌∙◌, arith, eqb, leb}
 use Rattle.std.specs.Prelude.{OnErr}
-use Rattle.std.specs.Option.{option_and_then}
 use Rattle.std.specs.Int.{w64, to_le_bytes, from_le_bytes}
-use Rattle.std.proofs.lemmas.Bool.{le-leb, leb-true, eqb-true, cases_Bool}
+use Rattle.std.proofs.lemmas.Bool.{le-leb, leb-true, eqb-true}
 use Rattle.std.proofs.lemmas.List.{take-append-drop, length-append, length-take-le}
 use Rattle.std.proofs.lemmas.Nat.{le_bytes_8, from_le_bytes-to_le_bytes_8}
 use Rattle.kv_base.specs.declared.reply.Reply.{Reply}
 use Rattle.kv_base.specs.declared.reply.Reply.TheVariants.{Stored, Found, Missing, Removed, Absent}
 use Rattle.kv_base.specs.declared.reply.Reply.TheVariants.{BadKey, TooLarge, Full, NoMemory}
 use Rattle.kv_base.specs.declared.reply.Reply.TheVariants.{DiskFault, Unsure, Closed, StampsSpent}
-use Rattle.kv_base.specs.declared.reply.Reply.TheVariants.{Malformed}
+use Rattle.kv_base.specs.declared.reply.Reply.TheVariants.{Malformed, Noted, Ahead}
 use Rattle.kv_model.specs.Frames.{reply_content, HasReplyBody, reply_frame, BeginsWithReply}
 use Rattle.kv_model.specs.Frames.{BeginsWithNoReply, IsPartial, IsMalformedReply}
 use Rattle.kv_frames.specs.Cut.{BeginsWithContent, IsOutOfRange}
-use Rattle.kv_frames.specs.Reading.{number_in, bare_of, full_of, stamped_of, plain_in, found_in}
+use Rattle.kv_frames.specs.Reading.{bare_of, full_of, stamped_of, plain_in, found_in}
 use Rattle.kv_frames.specs.Reading.{reply_in, IsFoundContent}
 use Rattle.kv_frames.specs.Parse.{IsWholeReply, BeginsWithFound}
 use Rattle.kv_frames.proofs.FramingLemmas.{IsBytes, IsBytes-take, stated_length-framed}
 use Rattle.kv_frames.proofs.FramingLemmas.{content_within}
 use Rattle.kv_frames.proofs.CodeLemmas.{IsCode, Begins, chosen, begins_read, read_found}
 use Rattle.kv_frames.proofs.CodeLemmas.{begins_once, out_of_range_begins_none, partial_begins_none}
+use Rattle.kv_frames.proofs.NumberLemmas.{from_le_bytes_8-fits, number_back}
 
 -- ---- what is written is read
 
@@ -52,6 +52,9 @@ reply_again (StampsSpent number) fits =
     ap (λ (s : ℕ). Some (StampsSpent s)) (from_le_bytes-to_le_bytes_8 number fits)
 reply_again (Malformed offset) fits =
     ap (λ (s : ℕ). Some (Malformed s)) (from_le_bytes-to_le_bytes_8 offset fits)
+reply_again Noted fits = refl
+reply_again (Ahead number) fits =
+    ap (λ (s : ℕ). Some (Ahead s)) (from_le_bytes-to_le_bytes_8 number fits)
 
 -- ---- what is read is written
 
@@ -78,11 +81,12 @@ one_kind kind number body value reply other has is others e =
 
 bare_back : (kind : ℕ) (reply : Reply) → bare_of kind ≡ Some reply → IsReplyOf kind [] reply
 bare_back kind reply =
-    one_kind kind 0xE1 [] BadKey reply _ tt refl
+    one_kind kind 0x87 [] Noted reply _ tt refl
+    (one_kind kind 0xE1 [] BadKey reply _ tt refl
     (one_kind kind 0xE2 [] TooLarge reply _ tt refl
     (one_kind kind 0xE4 [] NoMemory reply _ tt refl
     (one_kind kind 0xE5 [] DiskFault reply _ tt refl
-    (one_kind kind 0xE7 [] Closed reply _ tt refl (λ e. absurd cc)))))
+    (one_kind kind 0xE7 [] Closed reply _ tt refl (λ e. absurd cc))))))
 
 full_back : (kind class : ℕ) (reply : Reply) → class < 256 → full_of kind class ≡ Some reply
     → IsReplyOf kind (class ∷ []) reply
@@ -100,23 +104,8 @@ stamped_back kind number body reply fits is =
     (one_kind kind 0xE6 body (Unsure number) reply _ fits (ap (λ (b : List ℕ). 0xE6 ∷ b) is)
     (one_kind kind 0xE8 body (StampsSpent number) reply _ fits (ap (λ (b : List ℕ). 0xE8 ∷ b) is)
     (one_kind kind 0xE9 body (Malformed number) reply _ fits (ap (λ (b : List ℕ). 0xE9 ∷ b) is)
-    (λ e. absurd cc)))))))
-
--- a number of eight bytes
-from_le_bytes_8-fits : (bytes : List ℕ) → IsBytes bytes → from_le_bytes w64 bytes < 2 ^ 64
-from_le_bytes_8-fits bytes fits =
-    omega (arith, fits 0, fits 1, fits 2, fits 3, fits 4, fits 5, fits 6, fits 7)
-
-number_back : (body : List ℕ) (f : ℕ → Option Reply) (reply : Reply)
-    → option_and_then f (number_in body) ≡ Some reply
-    → (length body ≡ 8) × (f (from_le_bytes w64 body) ≡ Some reply)
-number_back body f reply e =
-    elim (cases_Bool (eqb (length body) 8)) [
-      | inl eight ↦ (eqb-true _ _ eight, rw eight at e)
-      | inr other ↦
-          let none = rw other at e in
-          absurd cc
-    ]
+    (one_kind kind 0xEA body (Ahead number) reply _ fits (ap (λ (b : List ℕ). 0xEA ∷ b) is)
+    (λ e. absurd cc))))))))
 
 plain_back : (kind : ℕ) (body : List ℕ) (reply : Reply) → IsBytes body
     → plain_in kind body ≡ Some reply → IsReplyOf kind body reply
@@ -173,6 +162,8 @@ reply_some (Unsure stamp) = omega arith
 reply_some Closed = omega arith
 reply_some (StampsSpent number) = omega arith
 reply_some (Malformed offset) = omega arith
+reply_some Noted = omega arith
+reply_some (Ahead number) = omega arith
 
 -- replies' contents are written and read
 reply_code : IsCode Reply reply_content HasReplyBody reply_in

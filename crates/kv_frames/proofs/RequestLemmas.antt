@@ -1,20 +1,24 @@
 -- Lemmas on frames of requests.
 use Rattle.std.proofs.Common.{◌≡◌, ℕ, suc, ◌+◌, ◌^◌, ◌<◌, ◌≤◌, true, cond, List, [], ◌∷◌, ◌++◌}
-use Rattle.std.proofs.Common.{length, take, drop, Option, Some, None, inl, inr, refl, subst, ◌∙◌}
+use Rattle.std.proofs.Common.{length, take, drop, Option, Some, None, inl, inr, refl, ap, subst}
+use Rattle.std.proofs.Common.{◌∙◌}
 use Rattle.std.proofs.Common.{arith, eqb, leb}
 use Rattle.std.proofs.lemmas.Bool.{le-leb, leb-true, eqb-true}
 use Rattle.std.proofs.lemmas.List.{take_at, drop_at, take-append-drop, length-append}
 use Rattle.std.proofs.lemmas.List.{length-take-le}
+use Rattle.std.proofs.lemmas.Nat.{le_bytes_8, from_le_bytes-to_le_bytes_8}
+use Rattle.std.specs.Int.{w64, from_le_bytes}
 use Rattle.kv_base.specs.declared.request.Request.{Request}
-use Rattle.kv_base.specs.declared.request.Request.TheVariants.{Put, Get, Delete, Flush}
+use Rattle.kv_base.specs.declared.request.Request.TheVariants.{Put, Get, Delete, Flush, After}
 use Rattle.kv_model.specs.Frames.{request_content, HasRequestBody, request_frame, BeginsWithRequest}
 use Rattle.kv_model.specs.Frames.{BeginsWithNoRequest, IsPartial, IsMalformed}
 use Rattle.kv_frames.specs.Cut.{BeginsWithContent, IsOutOfRange}
-use Rattle.kv_frames.specs.Reading.{put_body_in, flush_body_in, request_in}
+use Rattle.kv_frames.specs.Reading.{put_body_in, flush_body_in, after_in, request_in}
 use Rattle.kv_frames.specs.Parse.{IsWhole}
 use Rattle.kv_frames.proofs.FramingLemmas.{IsBytes, stated_length-framed, content_within}
 use Rattle.kv_frames.proofs.CodeLemmas.{IsCode, Begins, chosen, begins_read, read_found}
 use Rattle.kv_frames.proofs.CodeLemmas.{begins_once, out_of_range_begins_none, partial_begins_none}
+use Rattle.kv_frames.proofs.NumberLemmas.{from_le_bytes_8-fits, number_made}
 
 -- what a request's content is read as
 request_again : (request : Request) → HasRequestBody request
@@ -26,6 +30,8 @@ request_again (Put key value) fits =
 request_again (Get key) fits = refl
 request_again (Delete key) fits = refl
 request_again Flush fits = refl
+request_again (After stamp) fits =
+    ap (λ (s : ℕ). Some (After s)) (from_le_bytes-to_le_bytes_8 stamp fits)
 
 -- the request has this kind and body
 abbrev IsRequestOf : ℕ → List ℕ → Request → Type 0
@@ -73,6 +79,14 @@ flush_back : (body : List ℕ) (request : Request) → flush_body_in body ≡ So
 flush_back [] request e = key_back 0x05 [] Flush request tt refl e
 flush_back (byte ∷ rest) request e = absurd cc
 
+-- what is read as an After's stamp is its body
+after_back : (body : List ℕ) (request : Request) → IsBytes body → after_in body ≡ Some request
+    → IsRequestOf 0x06 body request
+after_back body request fits e =
+    let back = number_made body (λ stamp. After stamp) request e in
+    key_back 0x06 body (After (from_le_bytes w64 body)) request (from_le_bytes_8-fits body fits)
+    (ap (λ (b : List ℕ). 0x06 ∷ b) (le_bytes_8 body _ back.0 fits refl)) back.1
+
 -- what is read as a request is its content
 request_back : (bytes : List ℕ) (request : Request) → IsBytes bytes
     → request_in bytes ≡ Some request → HasRequestBody request × (request_content request ≡ bytes)
@@ -81,7 +95,9 @@ request_back (kind ∷ body) request fits e =
     one_kind kind 0x01 body request _ _ (put_back body request (λ i. fits (suc i)))
     (one_kind kind 0x02 body request _ _ (key_back 0x02 body (Get body) request tt refl)
     (one_kind kind 0x03 body request _ _ (key_back 0x03 body (Delete body) request tt refl)
-    (one_kind kind 0x05 body request _ _ (flush_back body request) (λ none. absurd cc)))) e
+    (one_kind kind 0x05 body request _ _ (flush_back body request)
+    (one_kind kind 0x06 body request _ _ (after_back body request (λ i. fits (suc i)))
+    (λ none. absurd cc))))) e
 
 -- a request's content has its kind at least
 pub request_some : (request : Request) → 1 ≤ length (request_content request)
@@ -89,6 +105,7 @@ request_some (Put key value) = omega arith
 request_some (Get key) = omega arith
 request_some (Delete key) = omega arith
 request_some Flush = omega arith
+request_some (After stamp) = omega arith
 
 -- requests' contents are written and read
 request_code : IsCode Request request_content HasRequestBody request_in

@@ -2,14 +2,14 @@
 use Rattle.std.specs.Prelude.{◌≡◌, ℕ, ◌==◌, List, [], ◌∷◌, length, take, drop, Option, Some, None}
 use Rattle.std.specs.Prelude.{nat_le, if◌then◌else◌}
 use Rattle.std.specs.Int.{w64, from_le_bytes}
-use Rattle.std.specs.Option.{option_and_then}
+use Rattle.std.specs.Option.{option_and_then, option_map}
 use Rattle.kv_base.specs.declared.request.Request.{Request}
-use Rattle.kv_base.specs.declared.request.Request.TheVariants.{Put, Get, Delete, Flush}
+use Rattle.kv_base.specs.declared.request.Request.TheVariants.{Put, Get, Delete, Flush, After}
 use Rattle.kv_base.specs.declared.reply.Reply.{Reply}
 use Rattle.kv_base.specs.declared.reply.Reply.TheVariants.{Stored, Found, Missing, Removed, Absent}
 use Rattle.kv_base.specs.declared.reply.Reply.TheVariants.{BadKey, TooLarge, Full, NoMemory}
 use Rattle.kv_base.specs.declared.reply.Reply.TheVariants.{DiskFault, Unsure, Closed, StampsSpent}
-use Rattle.kv_base.specs.declared.reply.Reply.TheVariants.{Malformed}
+use Rattle.kv_base.specs.declared.reply.Reply.TheVariants.{Malformed, Noted, Ahead}
 
 -- the key of so many bytes, and the value behind it, where the key is all there
 abbrev pub put_in : ℕ → List ℕ → Option Request
@@ -27,6 +27,14 @@ abbrev pub flush_body_in : List ℕ → Option Request
 flush_body_in [] = Some Flush
 flush_body_in (byte ∷ rest) = None
 
+-- the number that a body of eight bytes is
+abbrev pub number_in : List ℕ → Option ℕ
+number_in body = if length body == 8 then Some (from_le_bytes w64 body) else None
+
+-- an After's body: a stamp
+abbrev pub after_in : List ℕ → Option Request
+after_in body = option_map (λ stamp. After stamp) (number_in body)
+
 -- the request with this content, where there is one
 abbrev pub request_in : List ℕ → Option Request
 request_in [] = None
@@ -34,20 +42,18 @@ request_in (kind ∷ body) =
     if kind == 0x01 then put_body_in body else
     (if kind == 0x02 then Some (Get body) else
     (if kind == 0x03 then Some (Delete body) else
-    (if kind == 0x05 then flush_body_in body else None)))
-
--- the number that a body of eight bytes is
-abbrev pub number_in : List ℕ → Option ℕ
-number_in body = if length body == 8 then Some (from_le_bytes w64 body) else None
+    (if kind == 0x05 then flush_body_in body else
+    (if kind == 0x06 then after_in body else None))))
 
 -- the reply of a kind whose body is empty
 abbrev pub bare_of : ℕ → Option Reply
 bare_of kind =
-    if kind == 0xE1 then Some BadKey else
+    if kind == 0x87 then Some Noted else
+    (if kind == 0xE1 then Some BadKey else
     (if kind == 0xE2 then Some TooLarge else
     (if kind == 0xE4 then Some NoMemory else
     (if kind == 0xE5 then Some DiskFault else
-    (if kind == 0xE7 then Some Closed else None))))
+    (if kind == 0xE7 then Some Closed else None)))))
 
 -- the reply of a kind whose body is a class
 abbrev pub full_of : ℕ → ℕ → Option Reply
@@ -62,7 +68,8 @@ stamped_of kind number =
     (if kind == 0x85 then Some (Absent number) else
     (if kind == 0xE6 then Some (Unsure number) else
     (if kind == 0xE8 then Some (StampsSpent number) else
-    (if kind == 0xE9 then Some (Malformed number) else None))))))
+    (if kind == 0xE9 then Some (Malformed number) else
+    (if kind == 0xEA then Some (Ahead number) else None)))))))
 
 -- the reply with this kind and body, but for a Found
 abbrev pub plain_in : ℕ → List ℕ → Option Reply

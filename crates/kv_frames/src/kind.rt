@@ -8,6 +8,8 @@ pub const DELETE: u8 = 0x03;
 
 pub const FLUSH: u8 = 0x05;
 
+pub const AFTER: u8 = 0x06;
+
 pub const STORED: u8 = 0x81;
 
 pub const FOUND: u8 = 0x82;
@@ -17,6 +19,8 @@ pub const MISSING: u8 = 0x83;
 pub const REMOVED: u8 = 0x84;
 
 pub const ABSENT: u8 = 0x85;
+
+pub const NOTED: u8 = 0x87;
 
 pub const BAD_KEY: u8 = 0xE1;
 
@@ -35,3 +39,5 @@ pub const CLOSED: u8 = 0xE7;
 pub const STAMPS_SPENT: u8 = 0xE8;
 
 pub const MALFORMED: u8 = 0xE9;
+
+pub const AHEAD: u8 = 0xEA;

@@ -1,5 +1,6 @@
 ghost use Rattle.std.specs.Prelude.{◌≡◌};
 ghost use Rattle.std.specs.Int.{w32, w64, to_le_bytes, from_le_bytes};
+ghost use Rattle.kv_frames.specs.Reading.{number_in};
 
 use byteorder::{ByteOrder, LittleEndian};
 
@@ -33,4 +34,14 @@ pub fn u64_bytes(number: u64) -> [u8; 8]
     let mut bytes = [0; 8];
     LittleEndian::write_u64(&mut bytes, number);
     bytes
+}
+
+/// The number that the body is, where it has just its eight bytes.
+pub fn read_number(body: &[u8]) -> Option<u64>
+    ensures { result ≡ number_in body.now }
+{
+    match body.split_first_chunk::<8>() {
+        Some((number, [])) => Some(u64_in(number)),
+        _ => None,
+    }
 }

@@ -21,5 +21,6 @@ pub fn own(alloc: Global, view: &RequestView<'_>) -> Result<Request, NoMemory>
             key: Bytes::copy(alloc, key)?,
         }),
         RequestView::Flush => Ok(Request::Flush),
+        RequestView::After { stamp } => Ok(Request::After { stamp: *stamp }),
     }
 }

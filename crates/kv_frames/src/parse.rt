@@ -3,11 +3,12 @@ ghost use Rattle.std.specs.Option.{option_map};
 ghost use Rattle.kv_base.specs.declared.request.Request.{Request};
 ghost use Rattle.kv_model.specs.Frames.{BeginsWithRequest, IsPartial, IsMalformed};
 ghost use Rattle.kv_frames.specs.View.{request_of};
-ghost use Rattle.kv_frames.specs.Reading.{put_in, request_in};
+ghost use Rattle.kv_frames.specs.Reading.{put_in, after_in, request_in};
 ghost use Rattle.kv_frames.specs.Parse.{IsParsed, IsFound};
 
 use crate::cut::{Front, cut_front};
 use crate::kind;
+use crate::numbers::read_number;
 use crate::view::{Parsed, RequestView};
 
 /// Parses the request that the bytes begin with. Takes no memory and copies nothing: the key and
@@ -42,6 +43,7 @@ fn view_request(content: &[u8]) -> Option<RequestView<'_>>
         [kind::GET, key @ ..] => Some(RequestView::Get { key }),
         [kind::DELETE, key @ ..] => Some(RequestView::Delete { key }),
         [kind::FLUSH] => Some(RequestView::Flush),
+        [kind::AFTER, body @ ..] => view_after(body),
         _ => None,
     }
 }
@@ -52,4 +54,12 @@ fn view_put(key_length: usize, rest: &[u8]) -> Option<RequestView<'_>>
 {
     let (key, value) = rest.split_at_checked(key_length)?;
     Some(RequestView::Put { key, value })
+}
+
+/// The After with this body.
+fn view_after(body: &[u8]) -> Option<RequestView<'_>>
+    ensures { option_map request_of result ≡ after_in body.now }
+{
+    let stamp = read_number(body)?;
+    Some(RequestView::After { stamp })
 }

@@ -37,6 +37,8 @@ pub fn put_reply(reply: &Reply, out: &mut Vec<u8>) -> Result<(), NoMemory>
             out,
         ),
         Reply::Malformed { offset } => put_frame(&[kind::MALFORMED], &u64_bytes(*offset), &[], out),
+        Reply::Noted => put_frame(&[kind::NOTED], &[], &[], out),
+        Reply::Ahead { number } => put_frame(&[kind::AHEAD], &u64_bytes(*number), &[], out),
     }
 }
 
@@ -59,6 +61,7 @@ pub fn put_request(request: &Request, out: &mut Vec<u8>) -> Result<(), NoMemory>
         Request::Get { key } => put_frame(&[kind::GET], &[], key.as_slice(), out),
         Request::Delete { key } => put_frame(&[kind::DELETE], &[], key.as_slice(), out),
         Request::Flush => put_frame(&[kind::FLUSH], &[], &[], out),
+        Request::After { stamp } => put_frame(&[kind::AFTER], &u64_bytes(*stamp), &[], out),
     }
 }
 

@@ -1,13 +1,13 @@
 ghost use Rattle.std.specs.Prelude.{◌≡◌, ℕ, List, ◌∷◌, IfOk, OnErr};
 ghost use Rattle.kv_base.specs.declared.reply.Reply.{Reply};
 ghost use Rattle.kv_model.specs.Frames.{BeginsWithReply, IsPartial, IsMalformedReply};
-ghost use Rattle.kv_frames.specs.Reading.{number_in, bare_of, full_of, stamped_of};
+ghost use Rattle.kv_frames.specs.Reading.{bare_of, full_of, stamped_of};
 ghost use Rattle.kv_frames.specs.Reading.{plain_in, found_in, reply_in, IsFoundContent};
 ghost use Rattle.kv_frames.specs.Parse.{IsReplyParsed, IsReplyFound, BeginsWithFound};
 
 use crate::cut::{Front, cut_front};
 use crate::kind;
-use crate::numbers::u64_in;
+use crate::numbers::{read_number, u64_in};
 use kv_base::{Bytes, NoMemory, Reply};
 use std::alloc::Global;
 
@@ -92,6 +92,7 @@ fn bare_reply(kind: u8) -> Option<Reply>
     ensures { result ≡ bare_of kind }
 {
     match kind {
+        kind::NOTED => Some(Reply::Noted),
         kind::BAD_KEY => Some(Reply::BadKey),
         kind::TOO_LARGE => Some(Reply::TooLarge),
         kind::NO_MEMORY => Some(Reply::NoMemory),
@@ -123,16 +124,7 @@ fn stamped_reply(kind: u8, number: u64) -> Option<Reply>
         kind::UNSURE => Some(Reply::Unsure { stamp: number }),
         kind::STAMPS_SPENT => Some(Reply::StampsSpent { number }),
         kind::MALFORMED => Some(Reply::Malformed { offset: number }),
-        _ => None,
-    }
-}
-
-/// The number that the body is.
-fn read_number(body: &[u8]) -> Option<u64>
-    ensures { result ≡ number_in body.now }
-{
-    match body.split_first_chunk::<8>() {
-        Some((number, [])) => Some(u64_in(number)),
+        kind::AHEAD => Some(Reply::Ahead { number }),
         _ => None,
     }
 }

@@ -20,6 +20,11 @@ pub enum RequestView<'a> {
     },
     /// Ends a group of requests.
     Flush,
+    /// Asks that each later stamp of the session be above this one.
+    After {
+        /// The stamp, any number.
+        stamp: u64,
+    },
 }
 
 /// What bytes of requests begin with.

@@ -30,7 +30,7 @@ fn has_good_sizes(request: &Request) -> bool
         Request::Put { key, value } => class_of(key.len(), value.len()).is_some(),
         Request::Get { key } => is_key(key.as_slice()),
         Request::Delete { key } => is_key(key.as_slice()),
-        Request::Flush => true,
+        Request::Flush | Request::After { .. } => true,
     }
 }
 
@@ -43,7 +43,7 @@ fn owns_key(request: &Request, worker: u32, workers: u32) -> bool
         Request::Put { key, value: _ } => owner(key.as_slice(), workers) == worker,
         Request::Get { key } => owner(key.as_slice(), workers) == worker,
         Request::Delete { key } => owner(key.as_slice(), workers) == worker,
-        Request::Flush => false,
+        Request::Flush | Request::After { .. } => false,
     }
 }
 

@@ -9,7 +9,7 @@ use Rattle.std.specs.List.{AllByRecursion}
 use Rattle.std.specs.Str.{bytes_eq}
 use Rattle.std.proofs.lemmas.Slice.Eq.{bytes_eq-Decides}
 use Rattle.kv_base.specs.declared.request.Request.{Request}
-use Rattle.kv_base.specs.declared.request.Request.TheVariants.{Put, Get, Delete, Flush}
+use Rattle.kv_base.specs.declared.request.Request.TheVariants.{Put, Get, Delete, Flush, After}
 use Rattle.kv_model.specs.History.{Write, value_at}
 use Rattle.kv_model.specs.Layout.{Layout, class_of}
 use Rattle.kv_model.specs.Pairs.{acknowledged, acknowledged_by}
@@ -212,6 +212,8 @@ head (Delete key) told layout start before history rest stamp one below equal sa
           (omega arith) above,
     ))) (some-of told value (value_at history (stamp - 1) key) e)
 head Flush told layout start before history rest stamp one below equal same above keyed =
+    absurd (true≢false (sym keyed))
+head (After seen) told layout start before history rest stamp one below equal same above keyed =
     absurd (true≢false (sym keyed))
 
 -- each answer to a batch is the map's

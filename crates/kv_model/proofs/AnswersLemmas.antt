@@ -11,7 +11,7 @@ use Rattle.std.specs.Option.{option_or}
 use Rattle.std.specs.Str.{bytes_eq}
 use Rattle.std.proofs.lemmas.Slice.Eq.{bytes_eq-Decides}
 use Rattle.kv_base.specs.declared.request.Request.{Request}
-use Rattle.kv_base.specs.declared.request.Request.TheVariants.{Put, Get, Delete, Flush}
+use Rattle.kv_base.specs.declared.request.Request.TheVariants.{Put, Get, Delete, Flush, After}
 use Rattle.kv_model.specs.History.{Write}
 use Rattle.kv_model.specs.Pairs.{written, acknowledged_by, stamp_of, writes}
 use Rattle.kv_model.specs.Batch.{Start, last_write, value_or, value_after, full_class}
@@ -53,6 +53,7 @@ HasStamp-reply (Delete key) start writes stamp = by (value_after start writes ke
     by None = refl
     by (Some value) = refl
 HasStamp-reply Flush start writes stamp = tt
+HasStamp-reply (After told) start writes stamp = tt
 
 pub AreStamped-answers : (requests : List Request) (start : Start) (writes : List Write)
     (stamp : ℕ) → AreStamped stamp (answers start writes stamp requests)
@@ -108,6 +109,7 @@ kinds (Delete key) start writes stamp = by (value_after start writes key) refl
     }
     by (Some value) e = inl refl
 kinds Flush start writes stamp = inl refl
+kinds (After told) start writes stamp = inl refl
 
 pub cons-is : (first : Option Write) (rest : List Write) → cons_option first rest
     ≡ option_to_list first ++ rest

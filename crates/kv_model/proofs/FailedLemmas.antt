@@ -4,7 +4,7 @@ use Rattle.std.proofs.Common.{refl, ap, sym, ◌∙◌, subst, append_assoc, app
 use Rattle.std.proofs.Common.{length, is_some, MatchOption, IsSome, true≢false}
 use Rattle.std.specs.List.{AllByRecursion, cons_option}
 use Rattle.kv_base.specs.declared.request.Request.{Request}
-use Rattle.kv_base.specs.declared.request.Request.TheVariants.{Put, Get, Delete, Flush}
+use Rattle.kv_base.specs.declared.request.Request.TheVariants.{Put, Get, Delete, Flush, After}
 use Rattle.kv_base.specs.declared.reply.Reply.{Reply}
 use Rattle.kv_base.specs.declared.reply.Reply.TheVariants.{Stored, Full}
 use Rattle.kv_model.specs.History.{Write}
@@ -26,6 +26,7 @@ HasStamp-failed (Put key value) reply stamp has = refl
 HasStamp-failed (Get key) reply stamp has = tt
 HasStamp-failed (Delete key) reply stamp has = refl
 HasStamp-failed Flush reply stamp has = has
+HasStamp-failed (After told) reply stamp has = has
 
 -- each reply carries no other stamp than its request's
 pub AreStamped-failed : (requests : List Request) (replies : List Reply) (stamp : ℕ)
@@ -41,6 +42,10 @@ flush-writes : (reply : Reply) → acknowledged_by Flush reply ≡ None
 flush-writes (Stored stamp) = refl
 flush-writes reply = refl
 
+after-writes : (told : ℕ) (reply : Reply) → acknowledged_by (After told) reply ≡ None
+after-writes told (Stored stamp) = refl
+after-writes told reply = refl
+
 acknowledges-none : (request : Request) (reply : Reply) (stamp : ℕ)
     → acknowledged_by request (failed_reply request stamp reply) ≡ None
 acknowledges-none (Put key value) (Full class) stamp = refl
@@ -48,6 +53,7 @@ acknowledges-none (Put key value) reply stamp = refl
 acknowledges-none (Get key) reply stamp = refl
 acknowledges-none (Delete key) reply stamp = refl
 acknowledges-none Flush reply stamp = flush-writes reply
+acknowledges-none (After told) reply stamp = after-writes told reply
 
 -- the replies acknowledge nothing
 pub writes-failed : (requests : List Request) (replies : List Reply) (stamp : ℕ)
@@ -71,6 +77,7 @@ unsure-is-accepted (Put key value) start before stamp = by (full_class start bef
 unsure-is-accepted (Get key) start before stamp = refl
 unsure-is-accepted (Delete key) start before stamp = refl
 unsure-is-accepted Flush start before stamp = refl
+unsure-is-accepted (After told) start before stamp = refl
 
 -- they leave all accepted writes unsure
 pub unsure-failed : (requests : List Request) (start : Start) (before : List Write) (stamp : ℕ)
@@ -105,6 +112,7 @@ answer-is-sure (Delete key) start before stamp = by (value_after start before ke
     by None = refl
     by (Some value) = refl
 answer-is-sure Flush start before stamp = refl
+answer-is-sure (After told) start before stamp = refl
 
 -- the answers themselves leave none unsure
 pub unsure-answers : (requests : List Request) (start : Start) (before : List Write) (stamp : ℕ)
@@ -133,6 +141,8 @@ failed-head (Put key value) told layout start before history stamp same keyed =
 failed-head (Get key) told layout start before history stamp same keyed = tt
 failed-head (Delete key) told layout start before history stamp same keyed = tt
 failed-head Flush told layout start before history stamp same keyed =
+    absurd (true≢false (sym keyed))
+failed-head (After seen) told layout start before history stamp same keyed =
     absurd (true≢false (sym keyed))
 
 -- each is one that the map may give, whatever its history is

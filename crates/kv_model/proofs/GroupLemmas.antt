@@ -6,11 +6,11 @@ use Rattle.std.proofs.lemmas.List.{map-append, length-map}
 use Rattle.std.specs.List.{AllByRecursion, flat_map}
 use Rattle.std.proofs.lemmas.Grind.{flat_map-append}
 use Rattle.kv_base.specs.declared.request.Request.{Request}
-use Rattle.kv_base.specs.declared.request.Request.TheVariants.{Put, Get, Delete, Flush}
+use Rattle.kv_base.specs.declared.request.Request.TheVariants.{Put, Get, Delete, Flush, After}
 use Rattle.kv_base.specs.declared.reply.Reply.{Reply}
 use Rattle.kv_model.specs.Pairs.{Pair, requests_of, pairs_in, replies_in}
 use Rattle.kv_model.specs.Groups.{Groups, IsGroup, with_group, all_groups, end_group, end_full}
-use Rattle.kv_model.specs.Groups.{with_request, next_groups, has_reply}
+use Rattle.kv_model.specs.Groups.{with_request, add_alone, next_groups, has_reply}
 use Rattle.kv_model.proofs.PairwiseLemmas.{All-append}
 
 -- the groups that ended are of the right size, and the current one isn't full
@@ -72,6 +72,21 @@ with_request-flat groups request =
     ∙ sym (append_assoc (flat groups.ended) groups.current (request ∷ []))
     ∙ ap (λ all. all ++ request ∷ []) (sym (with_group-flat groups.ended groups.current))
 
+add_alone-groups : (groups : Groups) (request : Request) → AreGroups groups
+    → AreGroups (add_alone groups request)
+add_alone-groups groups request are = record {
+  ended = All-append IsGroup (all_groups groups) ((request ∷ []) ∷ [])
+      (with_group-sizes groups.ended groups.current are.ended (omega (arith, are.current)))
+      (record { some = omega arith; most = omega arith }, tt);
+  current = omega arith;
+}
+
+add_alone-flat : (groups : Groups) (request : Request)
+    → flat (all_groups (add_alone groups request)) ≡ flat (all_groups groups) ++ request ∷ []
+add_alone-flat groups request =
+    flat_map-append (λ group. group) (all_groups groups) ((request ∷ []) ∷ [])
+    ∙ ap (λ more. flat (all_groups groups) ++ more) (append-nil (request ∷ []))
+
 next_groups-groups : (groups : Groups) (request : Request) → AreGroups groups
     → AreGroups (next_groups groups request)
 next_groups-groups groups (Put key value) are = with_request-groups groups (Put key value) are
@@ -81,6 +96,7 @@ next_groups-groups groups Flush are = record {
   ended = with_group-sizes groups.ended groups.current are.ended (omega (arith, are.current));
   current = omega arith;
 }
+next_groups-groups groups (After stamp) are = add_alone-groups groups (After stamp) are
 
 pub fold-groups : (requests : List Request) (groups : Groups) → AreGroups groups
     → AreGroups (fold next_groups groups requests)
@@ -102,6 +118,9 @@ next_groups-flat groups (Delete key) rest =
     ap (λ all. all ++ rest) (with_request-flat groups (Delete key))
     ∙ append_assoc (flat (all_groups groups)) (Delete key ∷ []) rest
 next_groups-flat groups Flush rest = refl
+next_groups-flat groups (After stamp) rest =
+    ap (λ all. all ++ rest) (add_alone-flat groups (After stamp))
+    ∙ append_assoc (flat (all_groups groups)) (After stamp ∷ []) rest
 
 pub fold-flat : (requests : List Request) (groups : Groups)
     → flat (all_groups (fold next_groups groups requests))
@@ -144,6 +163,7 @@ fold-flushes (Put key value ∷ more) groups none = absurd (some_left (Put key v
 fold-flushes (Get key ∷ more) groups none = absurd (some_left (Get key) _ none)
 fold-flushes (Delete key ∷ more) groups none = absurd (some_left (Delete key) _ none)
 fold-flushes (Flush ∷ more) groups none = fold-flushes more (end_group groups) none
+fold-flushes (After stamp ∷ more) groups none = absurd (some_left (After stamp) _ none)
 
 -- lists that begin with as many elements have the same parts
 pub parts_same : {X : Type 0} (xs ys more rest : List X) → length xs ≡ length ys

@@ -23,3 +23,4 @@ pub mod PrefixLemmas
 pub mod ListedLemmas
 pub mod PlainLemmas
 pub mod ReaderLemmas
+pub mod CounterLemmas

@@ -10,7 +10,7 @@ use Rattle.std.specs.Option.{option_or}
 use Rattle.std.specs.Str.{bytes_eq}
 use Rattle.std.proofs.lemmas.Slice.Eq.{bytes_eq-Decides}
 use Rattle.kv_base.specs.declared.request.Request.{Request}
-use Rattle.kv_base.specs.declared.request.Request.TheVariants.{Put, Get, Delete, Flush}
+use Rattle.kv_base.specs.declared.request.Request.TheVariants.{Put, Get, Delete, Flush, After}
 use Rattle.kv_model.specs.Pairwise.{Pairwise}
 use Rattle.kv_model.specs.History.{Write}
 use Rattle.kv_model.specs.Pairs.{written}
@@ -67,6 +67,7 @@ RiseBetween-accepted (Put key value) start writes stamp = by (is_some (full_clas
 RiseBetween-accepted (Get key) start writes stamp = omega arith
 RiseBetween-accepted (Delete key) start writes stamp = (omega arith, omega arith)
 RiseBetween-accepted Flush start writes stamp = omega arith
+RiseBetween-accepted (After told) start writes stamp = omega arith
 
 pub RiseBetween-behind : (start : Start) (writes : List Write) (low stamp : ℕ) (request : Request)
     → RiseBetween low stamp writes → RiseBetween low (stamp + 1) (behind start writes stamp request)

@@ -2,9 +2,10 @@
 use Rattle.std.proofs.Common.{ℕ, ◌<◌, List, [], ◌∷◌, Option, None, Some, MatchOption}
 use Rattle.std.specs.List.{AllByRecursion, cons_option}
 use Rattle.kv_model.specs.Pairwise.{Pairwise}
-use Rattle.kv_model.specs.Pairs.{Pair, stamp_of, stamps, pairs_in}
+use Rattle.kv_model.specs.Pairs.{Pair, stamp_of, stamps, noted_stamps, pairs_in}
 use Rattle.kv_model.specs.Order.{IsAfter, Rises, RisesForKey}
-use Rattle.kv_model.proofs.PairwiseLemmas.{All-across, All-map, All-each, Pairwise-append}
+use Rattle.kv_model.proofs.PairwiseLemmas.{All-across, All-front, All-map, All-each}
+use Rattle.kv_model.proofs.PairwiseLemmas.{Pairwise-append}
 
 -- the stamp, where there is one, is above
 abbrev IsAbove : ℕ → Option ℕ → Type 0
@@ -31,13 +32,20 @@ rises_parts : (stamp : Option ℕ) (rest : List ℕ) (next : List Pair)
 rises_parts None rest next all = (All-each (λ p. Unit {0}) next (λ p. tt), all)
 rises_parts (Some stamp) rest next all = (above-each next stamp all.0, all.1)
 
+rises-above : (group next : List Pair)
+    → AllByRecursion (λ s. AllByRecursion (λ other. s < other) (stamps next)) (stamps group)
+    → AllByRecursion (λ pair. AllByRecursion (Rises pair) next) group
+rises-above [] next after = tt
+rises-above (pair ∷ group) next after =
+    let parts = rises_parts (stamp_of pair.reply) (stamps group) next after in
+    (parts.0, rises-above group next parts.1)
+
 -- each pair of the second group rises above each of the first
 pub rises-each : (group next : List Pair) → IsAfter group next
     → AllByRecursion (λ pair. AllByRecursion (Rises pair) next) group
-rises-each [] next after = tt
-rises-each (pair ∷ group) next after =
-    let parts = rises_parts (stamp_of pair.reply) (stamps group) next after in
-    (parts.0, rises-each group next parts.1)
+rises-each group next after =
+    rises-above group next (All-front (λ s. AllByRecursion (λ other. s < other) (stamps next))
+    (stamps group) (noted_stamps group) after)
 
 -- each pair of later groups rises above each of the first
 pub rises-behind : (groups : List (List Pair)) (group : List Pair)

@@ -1,5 +1,5 @@
 -- Lemmas on the slots of an image: what zeros read as, and which slots may have a byte.
-use Rattle.std.proofs.Common.{◌≡◌, ℕ, zero, suc, ◌+◌, ◌-◌, ◌*◌, ◌/◌, ◌<◌, ◌≤◌, ◌⊎◌, inl, inr, Bool}
+use Rattle.std.proofs.Common.{◌≡◌, ℕ, zero, suc, ◌+◌, ◌-◌, ◌*◌, ◌/◌, ◌<◌, ◌≤◌, inl, inr, Bool}
 use Rattle.std.proofs.Common.{true, false, cond, eqb, List, [], ◌∷◌, ◌++◌, map, take, drop, get_or}
 use Rattle.std.proofs.Common.{replicate, refl, sym, ap, ◌∙◌, subst, arith, ◌&&◌, ◌||◌}
 use Rattle.std.proofs.lemmas.Bool.{false≢true}
@@ -15,7 +15,7 @@ use Rattle.kv_model.specs.Layout.{pages_in_slot, class_of}
 use Rattle.kv_model.specs.declared.page.Page.{Page}
 use Rattle.kv_model.specs.Plain.{parts_of, is_zeros, image_of, zero_image, item_in}
 use Rattle.std.proofs.lemmas.List.Sums.{fold_more}
-use Rattle.std.proofs.Common.{length, max, Option}
+use Rattle.std.proofs.Common.{length, Option}
 use Rattle.kv_model.specs.Reading.{small_slot, large_slot, page_of, offset_of, slot_at, heads_at}
 use Rattle.kv_model.specs.Reading.{has_class}
 use Rattle.kv_model.specs.Slots.{Slot, Never, Item, Tombstone, Bad, Torn, read_small, read_large}

@@ -1,9 +1,9 @@
 -- Lemmas on what a plain reader answers: the items that are found and kept, the floor, free slots.
-use Rattle.std.proofs.Common.{◌≡◌, ◌↔◌, ℕ, ◌+◌, ◌<◌, ◌≤◌, ◌⊎◌, inl, inr, Bool, true, false, cond, eqb}
-use Rattle.std.proofs.Common.{ltb, leb, not, ◌&&◌, ◌||◌, List, [], ◌∷◌, map, slice_index, refl, sym}
-use Rattle.std.proofs.Common.{ap, ◌∙◌, subst, arith, Contains, get_or, ◌^◌}
+use Rattle.std.proofs.Common.{◌≡◌, ◌↔◌, ℕ, ◌<◌, ◌≤◌, ◌⊎◌, inl, inr, Bool, true, false, cond, eqb}
+use Rattle.std.proofs.Common.{ltb, not, ◌&&◌, ◌||◌, List, [], ◌∷◌, map, slice_index, refl, sym}
+use Rattle.std.proofs.Common.{◌∙◌, subst, arith, Contains, get_or, ◌^◌}
 use Rattle.std.proofs.lemmas.Bool.{false≢true}
-use Rattle.std.specs.List.{AllByRecursion, filter, list_all, list_any, range_with_len}
+use Rattle.std.specs.List.{AllByRecursion, list_all, list_any, range_with_len}
 use Rattle.std.specs.Str.{bytes_eq}
 use Rattle.std.proofs.lemmas.Bool.{cases_lt, eq-eqb, eqb-true, ltb-true, leb-true, lt-ltb, le-leb}
 use Rattle.std.proofs.lemmas.Slice.Eq.{bytes_eq-Decides}
@@ -13,11 +13,11 @@ use Rattle.kv_base.specs.declared.place.Place.{Place}
 use Rattle.kv_model.specs.declared.stored.Stored.{Stored}
 use Rattle.kv_model.specs.FreeSlots.{AreFree}
 use Rattle.kv_model.specs.Layout.{all_classes}
-use Rattle.kv_model.specs.Plain.{parts_of, is_zeros, IsEnd, AreEnds, place_at, places_in, places_of}
+use Rattle.kv_model.specs.Plain.{parts_of, AreEnds, place_at, places_in, places_of}
 use Rattle.kv_model.specs.Plain.{item_in, found_in, heads_in, copy_of, is_up_to, is_first, kept_of}
 use Rattle.kv_model.specs.Plain.{is_at, free_in, AreKept, HasKept, AreBelow, IsGreatest}
 use Rattle.std.proofs.lemmas.List.Elements.{Contains-get_or}
-use Rattle.kv_model.specs.Reading.{Copy, IsFound, IsKept, IsPreferred, IsUpTo, IsFloor, slot_at}
+use Rattle.kv_model.specs.Reading.{Copy, IsFound, IsKept, IsPreferred, IsFloor, slot_at}
 use Rattle.kv_model.specs.Reading.{heads_at, has_class}
 use Rattle.kv_model.specs.Slots.{Slot, Never, Item, Tombstone, Bad, Torn, stamp_field}
 use Rattle.kv_model.proofs.ContainsLemmas.{Contains-first, All-members}

@@ -6,7 +6,7 @@ use Rattle.std.proofs.Common.{true≢false, filter_map}
 use Rattle.std.specs.List.{AllByRecursion, cons_option}
 use Rattle.std.proofs.lemmas.List.Elements.{filter_map-append}
 use Rattle.kv_base.specs.declared.request.Request.{Request}
-use Rattle.kv_base.specs.declared.request.Request.TheVariants.{Put, Get, Delete, Flush}
+use Rattle.kv_base.specs.declared.request.Request.TheVariants.{Put, Get, Delete, Flush, After}
 use Rattle.kv_base.specs.declared.reply.Reply.{Reply}
 use Rattle.kv_base.specs.declared.reply.Reply.TheVariants.{Found}
 use Rattle.kv_model.specs.Pairwise.{Pairwise}
@@ -46,6 +46,7 @@ found (Get key) stamp value other told layout history same answer =
     read-told told (value_at history stamp key) value other same answer
 found (Delete key) stamp value other told layout history same answer = answer
 found Flush stamp value other told layout history same answer = absurd answer
+found (After seen) stamp value other told layout history same answer = absurd answer
 
 into : (request : Request) (reply : Reply) (told : Bool) (layout : Layout) (history : List Write)
     → IsMapAnswer told layout history request reply

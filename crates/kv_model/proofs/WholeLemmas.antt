@@ -7,7 +7,7 @@ use Rattle.std.proofs.Common.{MatchOption, is_some, IsTrue}
 use Rattle.std.specs.List.{AllByRecursion, cons_option}
 use Rattle.std.proofs.lemmas.List.Elements.{filter_map-append}
 use Rattle.kv_base.specs.declared.request.Request.{Request}
-use Rattle.kv_base.specs.declared.request.Request.TheVariants.{Put, Get, Delete, Flush}
+use Rattle.kv_base.specs.declared.request.Request.TheVariants.{Put, Get, Delete, Flush, After}
 use Rattle.kv_base.specs.declared.reply.Reply.{Reply}
 use Rattle.kv_base.specs.declared.reply.Reply.TheVariants.{Stored, Found, Missing, Removed, Absent}
 use Rattle.kv_model.specs.Pairwise.{Pairwise}
@@ -52,6 +52,8 @@ acknowledged-below (Get key) (Removed stamp) base below = tt
 acknowledged-below (Delete key) (Removed stamp) base below = (below, tt)
 acknowledged-below Flush (Stored stamp) base below = tt
 acknowledged-below Flush (Removed stamp) base below = tt
+acknowledged-below (After told) (Stored stamp) base below = tt
+acknowledged-below (After told) (Removed stamp) base below = tt
 acknowledged-below request reply base below = tt
 
 writes-below : (pairs : List Pair) (base : ℕ) → AllByRecursion (IsBelowStamp base) pairs

@@ -1,14 +1,16 @@
 -- Replies that are those of one plain map, whose history is read at each reply's stamp.
-use Rattle.std.specs.Prelude.{◌≡◌, ◌≢◌, ℕ, ◌-◌, ◌^◌, ◌<◌, List, ◌++◌, length, Option, None, Some}
-use Rattle.std.specs.Prelude.{[], ◌∷◌, ◌⊎◌, Bool, IsTrue, MatchOption, is_some, if◌then◌else◌, ⊤}
+use Rattle.std.specs.Prelude.{◌≡◌, ◌≢◌, ℕ, ◌-◌, ◌^◌, ◌<◌, ◌≤◌, List, ◌++◌, length, Option, None}
+use Rattle.std.specs.Prelude.{Some}
+use Rattle.std.specs.Prelude.{[], ◌∷◌, ◌⊎◌, Bool, IsTrue, MatchOption, is_some, nat_lt, ⊤}
+use Rattle.std.specs.Prelude.{if◌then◌else◌}
 use Rattle.std.specs.List.{AllByRecursion}
 use Rattle.kv_base.specs.declared.request.Request.{Request}
-use Rattle.kv_base.specs.declared.request.Request.TheVariants.{Put, Get, Delete, Flush}
+use Rattle.kv_base.specs.declared.request.Request.TheVariants.{Put, Get, Delete, Flush, After}
 use Rattle.kv_base.specs.declared.reply.Reply.{Reply}
 use Rattle.kv_base.specs.declared.reply.Reply.TheVariants.{Stored, Found, Missing, Removed, Absent}
 use Rattle.kv_base.specs.declared.reply.Reply.TheVariants.{BadKey, TooLarge, Full, NoMemory}
 use Rattle.kv_base.specs.declared.reply.Reply.TheVariants.{DiskFault, Unsure, Closed, StampsSpent}
-use Rattle.kv_base.specs.declared.reply.Reply.TheVariants.{Malformed}
+use Rattle.kv_base.specs.declared.reply.Reply.TheVariants.{Malformed, Noted, Ahead}
 use Rattle.kv_model.specs.Pairwise.{Pairwise}
 use Rattle.kv_model.specs.History.{Write, value_at}
 use Rattle.kv_model.specs.Layout.{Layout, is_key_length, class_of}
@@ -22,6 +24,7 @@ refusal_of layout (Put key value) = if is_key_length layout (length key)
 refusal_of layout (Get key) = if is_key_length layout (length key) then None else Some BadKey
 refusal_of layout (Delete key) = if is_key_length layout (length key) then None else Some BadKey
 refusal_of layout Flush = None
+refusal_of layout (After stamp) = None
 
 -- the value that was read is the one kept; where the disk doesn't tell its content, nothing is said
 -- of its bytes
@@ -33,6 +36,16 @@ IsRead told (Some kept) value = IsTrue told → value ≡ kept
 abbrev pub told_of : Bool → Reply → Reply
 told_of told (Found stamp value) = Found stamp (if told then value else [])
 told_of told reply = reply
+
+-- the reply to an After of this stamp: the counter stood above it, or not, at this number
+abbrev pub IsCounterAnswer : ℕ → Reply → Type 0
+IsCounterAnswer stamp Noted = stamp < 2 ^ 62
+IsCounterAnswer stamp (Ahead number) = (number ≤ stamp) × (number ≤ 2 ^ 62)
+IsCounterAnswer stamp reply = ⊥
+
+-- the reply to it where the counter stands at the number
+abbrev pub counter_reply : ℕ → ℕ → Reply
+counter_reply stamp number = if nat_lt stamp number then Noted else Ahead number
 
 -- the reply to a request of good sizes is the map's, or a refusal that such a request may get
 abbrev pub IsMapAnswer : Bool → Layout → List Write → Request → Reply → Type 0
@@ -51,6 +64,8 @@ IsMapAnswer told layout history (Put key value) (Unsure stamp) = ⊤
 IsMapAnswer told layout history (Put key value) Closed = ⊤
 IsMapAnswer told layout history (Put key value) (StampsSpent number) = ⊤
 IsMapAnswer told layout history (Put key value) (Malformed offset) = ⊥
+IsMapAnswer told layout history (Put key value) Noted = ⊥
+IsMapAnswer told layout history (Put key value) (Ahead number) = ⊥
 IsMapAnswer told layout history (Get key) (Stored stamp) = ⊥
 IsMapAnswer told layout history (Get key) (Found stamp found) =
     IsRead told (value_at history stamp key) found
@@ -66,6 +81,8 @@ IsMapAnswer told layout history (Get key) (Unsure stamp) = ⊥
 IsMapAnswer told layout history (Get key) Closed = ⊤
 IsMapAnswer told layout history (Get key) (StampsSpent number) = ⊤
 IsMapAnswer told layout history (Get key) (Malformed offset) = ⊥
+IsMapAnswer told layout history (Get key) Noted = ⊥
+IsMapAnswer told layout history (Get key) (Ahead number) = ⊥
 IsMapAnswer told layout history (Delete key) (Stored stamp) = ⊥
 IsMapAnswer told layout history (Delete key) (Found stamp found) = ⊥
 IsMapAnswer told layout history (Delete key) (Missing stamp) = ⊥
@@ -81,7 +98,10 @@ IsMapAnswer told layout history (Delete key) (Unsure stamp) = ⊤
 IsMapAnswer told layout history (Delete key) Closed = ⊤
 IsMapAnswer told layout history (Delete key) (StampsSpent number) = ⊤
 IsMapAnswer told layout history (Delete key) (Malformed offset) = ⊥
+IsMapAnswer told layout history (Delete key) Noted = ⊥
+IsMapAnswer told layout history (Delete key) (Ahead number) = ⊥
 IsMapAnswer told layout history Flush reply = ⊥
+IsMapAnswer told layout history (After stamp) reply = IsCounterAnswer stamp reply
 
 -- the reply is the refusal that the sizes demand, or the map's answer where they demand none
 abbrev pub IsAnswer : Bool → Layout → List Write → Request → Reply → Type 0

@@ -6,7 +6,7 @@ use Rattle.std.specs.Prelude.{if◌then◌else◌, option_and_then, option_to_li
 use Rattle.std.specs.Option.{option_or}
 use Rattle.std.specs.Str.{bytes_eq}
 use Rattle.kv_base.specs.declared.request.Request.{Request}
-use Rattle.kv_base.specs.declared.request.Request.TheVariants.{Put, Get, Delete, Flush}
+use Rattle.kv_base.specs.declared.request.Request.TheVariants.{Put, Get, Delete, Flush, After}
 use Rattle.kv_base.specs.declared.reply.Reply.{Reply}
 use Rattle.kv_base.specs.declared.reply.Reply.TheVariants.{Stored, Found, Missing, Removed, Absent}
 use Rattle.kv_base.specs.declared.reply.Reply.TheVariants.{Full, BadKey, DiskFault, Unsure}
@@ -103,6 +103,7 @@ reply_of start writes stamp (Put key value) = put_reply stamp (full_class start 
 reply_of start writes stamp (Get key) = get_reply stamp (value_after start writes key)
 reply_of start writes stamp (Delete key) = delete_reply stamp (value_after start writes key)
 reply_of start writes stamp Flush = BadKey
+reply_of start writes stamp (After told) = BadKey
 
 -- the write of the request, unless it is refused
 abbrev pub accepted : Start → List Write → ℕ → Request → Option Write
@@ -111,6 +112,7 @@ accepted start writes stamp (Put key value) = if is_some (full_class start write
 accepted start writes stamp (Get key) = written (Get key) stamp
 accepted start writes stamp (Delete key) = written (Delete key) stamp
 accepted start writes stamp Flush = written Flush stamp
+accepted start writes stamp (After told) = written (After told) stamp
 
 -- these writes and then that of the request
 abbrev pub behind : Start → List Write → ℕ → Request → List Write
@@ -145,6 +147,7 @@ failed_reply (Put key value) stamp reply = Unsure stamp
 failed_reply (Get key) stamp reply = DiskFault
 failed_reply (Delete key) stamp reply = Unsure stamp
 failed_reply Flush stamp reply = reply
+failed_reply (After told) stamp reply = reply
 
 -- the replies in place of these where a write failed, the first request with this stamp
 abbrev pub failed_replies : ℕ → List Request → List Reply → List Reply

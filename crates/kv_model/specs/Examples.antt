@@ -1,9 +1,10 @@
 -- Worked examples: the bytes are written by hand from the documents of the formats.
-use Rattle.std.specs.Prelude.{◌≡◌, ℕ, List, [], ◌∷◌, ◌++◌, replicate, true}
+use Rattle.std.specs.Prelude.{◌≡◌, ℕ, List, [], ◌∷◌, ◌++◌, replicate, true, false}
 use Rattle.kv_base.specs.declared.request.Request.{Request}
-use Rattle.kv_base.specs.declared.request.Request.TheVariants.{Put, Get, Flush}
+use Rattle.kv_base.specs.declared.request.Request.TheVariants.{Put, Get, Flush, After}
 use Rattle.kv_base.specs.declared.reply.Reply.{Reply}
 use Rattle.kv_base.specs.declared.reply.Reply.TheVariants.{Stored, Found, Missing, BadKey}
+use Rattle.kv_base.specs.declared.reply.Reply.TheVariants.{Noted, Ahead}
 use Rattle.kv_base.specs.declared.cause.Cause.TheVariants.{End, Malformed, SinkFault}
 use Rattle.kv_model.specs.Pairs.{Pair}
 use Rattle.kv_model.specs.Groups.{groups_of}
@@ -32,6 +33,22 @@ get_a_bytes = 2 ∷ 0 ∷ 0 ∷ 0 ∷ 2 ∷ 0x61 ∷ []
 -- the frame of Flush
 abbrev pub flush_bytes : List ℕ
 flush_bytes = 1 ∷ 0 ∷ 0 ∷ 0 ∷ 5 ∷ []
+
+-- the frame of After 0
+abbrev pub after_0_bytes : List ℕ
+after_0_bytes = 9 ∷ 0 ∷ 0 ∷ 0 ∷ 6 ∷ 0 ∷ 0 ∷ 0 ∷ 0 ∷ 0 ∷ 0 ∷ 0 ∷ 0 ∷ []
+
+-- the frame of After 1
+abbrev pub after_1_bytes : List ℕ
+after_1_bytes = 9 ∷ 0 ∷ 0 ∷ 0 ∷ 6 ∷ 1 ∷ 0 ∷ 0 ∷ 0 ∷ 0 ∷ 0 ∷ 0 ∷ 0 ∷ []
+
+-- the frame of Noted
+abbrev pub noted_bytes : List ℕ
+noted_bytes = 1 ∷ 0 ∷ 0 ∷ 0 ∷ 0x87 ∷ []
+
+-- the frame of Ahead 1
+abbrev pub ahead_1_bytes : List ℕ
+ahead_1_bytes = 9 ∷ 0 ∷ 0 ∷ 0 ∷ 0xEA ∷ 1 ∷ 0 ∷ 0 ∷ 0 ∷ 0 ∷ 0 ∷ 0 ∷ 0 ∷ []
 
 -- the frame of Stored 1
 abbrev pub stored_1_bytes : List ℕ
@@ -92,6 +109,20 @@ abbrev pub SinkFailsBeforeTheEnd : Type 0
 SinkFailsBeforeTheEnd = HasTranscript (put_a_bytes ++ flush_bytes ++ get_a_bytes) true []
     (Stored 1 ∷ []) SinkFault ((pair_of put_a (Stored 1) ∷ []) ∷ [])
 
+-- the sink failed at the reply to the group before an After, which isn't handled
+abbrev pub SinkFailsBeforeAnAfter : Type 0
+SinkFailsBeforeAnAfter = HasTranscript (put_a_bytes ++ after_1_bytes) false [] (Stored 1 ∷ [])
+    SinkFault ((pair_of put_a (Stored 1) ∷ []) ∷ [])
+
+-- a new session is told of 0, and then of 1, which is ahead
+abbrev pub told_twice : List (List Pair)
+told_twice = (pair_of (After 0) Noted ∷ []) ∷ (pair_of (After 1) (Ahead 1) ∷ []) ∷ []
+
+-- its transcript
+abbrev pub ToldTwice : Type 0
+ToldTwice = HasTranscript (after_0_bytes ++ after_1_bytes) true (noted_bytes ++ ahead_1_bytes) [] End
+    told_twice
+
 -- a put and a get in two groups, answered while the session goes on
 abbrev pub GoesOn : Type 0
 GoesOn = HasTranscriptSoFar (put_a_bytes ++ flush_bytes ++ get_a_bytes ++ flush_bytes ++ 2 ∷ [])
@@ -99,7 +130,7 @@ GoesOn = HasTranscriptSoFar (put_a_bytes ++ flush_bytes ++ get_a_bytes ++ flush_
     ((pair_of put_a (Stored 1) ∷ []) ∷ (pair_of get_a (Found 2 value_1) ∷ []) ∷ [])
 
 -- 64 requests are a group, and what comes behind them begins another; a flush ends a group and is
--- in none
+-- in none, and an After is one by itself
 pub record GroupsEnd : Type 0 where
   pub full : groups_of (replicate 64 get_a)
       ≡ record { ended = replicate 64 get_a ∷ []; current = [] }
@@ -109,6 +140,10 @@ pub record GroupsEnd : Type 0 where
       ≡ record { ended = (put_a ∷ []) ∷ []; current = get_a ∷ [] }
   pub flush_counts_not : groups_of (Flush ∷ replicate 64 get_a ++ Flush ∷ [])
       ≡ record { ended = replicate 64 get_a ∷ []; current = [] }
+  pub alone : groups_of (put_a ∷ After 0 ∷ After 1 ∷ get_a ∷ []) ≡ record {
+    ended = (put_a ∷ []) ∷ (After 0 ∷ []) ∷ (After 1 ∷ []) ∷ [];
+    current = get_a ∷ [];
+  }
 
 -- a slot of class 1 with a at stamp 258 and the value 1
 abbrev pub slot_a : List ℕ

@@ -4,12 +4,12 @@ use Rattle.std.specs.Prelude.{true, false, ⊤}
 use Rattle.std.specs.List.{AllByRecursion, flat_map}
 use Rattle.std.specs.Int.{w32, w64, to_le_bytes, from_le_bytes}
 use Rattle.kv_base.specs.declared.request.Request.{Request}
-use Rattle.kv_base.specs.declared.request.Request.TheVariants.{Put, Get, Delete, Flush}
+use Rattle.kv_base.specs.declared.request.Request.TheVariants.{Put, Get, Delete, Flush, After}
 use Rattle.kv_base.specs.declared.reply.Reply.{Reply}
 use Rattle.kv_base.specs.declared.reply.Reply.TheVariants.{Stored, Found, Missing, Removed, Absent}
 use Rattle.kv_base.specs.declared.reply.Reply.TheVariants.{BadKey, TooLarge, Full, NoMemory}
 use Rattle.kv_base.specs.declared.reply.Reply.TheVariants.{DiskFault, Unsure, Closed, StampsSpent}
-use Rattle.kv_base.specs.declared.reply.Reply.TheVariants.{Malformed}
+use Rattle.kv_base.specs.declared.reply.Reply.TheVariants.{Malformed, Noted, Ahead}
 
 -- the content behind its length
 abbrev pub framed : List ℕ → List ℕ
@@ -25,6 +25,7 @@ request_content (Put key value) = 0x01 ∷ length key ∷ key ++ value
 request_content (Get key) = 0x02 ∷ key
 request_content (Delete key) = 0x03 ∷ key
 request_content Flush = 0x05 ∷ []
+request_content (After stamp) = 0x06 ∷ to_le_bytes w64 stamp
 
 -- the request's fields can be written in its body
 abbrev pub HasRequestBody : Request → Type 0
@@ -32,6 +33,7 @@ HasRequestBody (Put key value) = length key < 256
 HasRequestBody (Get key) = ⊤
 HasRequestBody (Delete key) = ⊤
 HasRequestBody Flush = ⊤
+HasRequestBody (After stamp) = stamp < 2 ^ 64
 
 -- the request has a frame
 pub record HasRequestFrame (request : Request) : Type 0 where
@@ -58,6 +60,8 @@ reply_content (Unsure stamp) = 0xE6 ∷ to_le_bytes w64 stamp
 reply_content Closed = 0xE7 ∷ []
 reply_content (StampsSpent number) = 0xE8 ∷ to_le_bytes w64 number
 reply_content (Malformed offset) = 0xE9 ∷ to_le_bytes w64 offset
+reply_content Noted = 0x87 ∷ []
+reply_content (Ahead number) = 0xEA ∷ to_le_bytes w64 number
 
 -- the reply's fields can be written in its body
 abbrev pub HasReplyBody : Reply → Type 0
@@ -75,6 +79,8 @@ HasReplyBody (Unsure stamp) = stamp < 2 ^ 64
 HasReplyBody Closed = ⊤
 HasReplyBody (StampsSpent number) = number < 2 ^ 64
 HasReplyBody (Malformed offset) = offset < 2 ^ 64
+HasReplyBody Noted = ⊤
+HasReplyBody (Ahead number) = number < 2 ^ 64
 
 -- the reply has a frame
 pub record HasReplyFrame (reply : Reply) : Type 0 where

@@ -1,10 +1,11 @@
--- The groups that a session's requests make: each has 64 requests at most, and a Flush ends one.
+-- The groups that a session's requests make: each has 64 requests at most, a Flush ends one, and an
+-- After is one by itself.
 use Rattle.std.specs.Prelude.{◌≡◌, ℕ, ◌-◌, ◌==◌, ◌≤◌, List, [], ◌∷◌, ◌++◌, length, filter, fold}
 use Rattle.std.specs.Prelude.{Bool}
 use Rattle.std.specs.Prelude.{true, false, map, if◌then◌else◌}
 use Rattle.std.specs.List.{AllByRecursion, flat_map}
 use Rattle.kv_base.specs.declared.request.Request.{Request}
-use Rattle.kv_base.specs.declared.request.Request.TheVariants.{Put, Get, Delete, Flush}
+use Rattle.kv_base.specs.declared.request.Request.TheVariants.{Put, Get, Delete, Flush, After}
 use Rattle.kv_model.specs.Pairs.{Pair, requests_of, replies_in}
 
 -- the most requests of a group
@@ -46,12 +47,17 @@ abbrev pub with_request : Groups → Request → Groups
 with_request groups request =
     end_full (record { ended = groups.ended; current = groups.current ++ request ∷ [] })
 
--- behind one more request: a Flush stands in no group, and ends the current one
+-- the current group has ended, and the request is one by itself
+abbrev pub add_alone : Groups → Request → Groups
+add_alone groups request = record { ended = all_groups groups ++ (request ∷ []) ∷ []; current = [] }
+
+-- behind one more request: a Flush stands in no group, and ends the current one, as an After does
 abbrev pub next_groups : Groups → Request → Groups
 next_groups groups (Put key value) = with_request groups (Put key value)
 next_groups groups (Get key) = with_request groups (Get key)
 next_groups groups (Delete key) = with_request groups (Delete key)
 next_groups groups Flush = end_group groups
+next_groups groups (After stamp) = add_alone groups (After stamp)
 
 -- the groups that the requests make, in the order in which they were read
 abbrev pub groups_of : List Request → Groups
@@ -63,6 +69,7 @@ has_reply (Put key value) = true
 has_reply (Get key) = true
 has_reply (Delete key) = true
 has_reply Flush = false
+has_reply (After stamp) = true
 
 -- the group has a request, and no more than it may
 pub record IsGroup (group : List Request) : Type 0 where

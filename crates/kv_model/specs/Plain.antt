@@ -9,7 +9,7 @@ use Rattle.kv_base.specs.Partition.{owner_of}
 use Rattle.kv_base.specs.declared.place.Place.{Place}
 use Rattle.kv_model.specs.declared.page.Page.{Page}
 use Rattle.kv_model.specs.declared.stored.Stored.{Stored}
-use Rattle.kv_model.specs.FreeSlots.{Free, AreFree}
+use Rattle.kv_model.specs.FreeSlots.{AreFree}
 use Rattle.kv_model.specs.Layout.{all_classes, is_small}
 use Rattle.kv_model.specs.Reading.{Copy, IsKept, small_slot, large_slot, slot_at}
 use Rattle.kv_model.specs.Slots.{Slot, Never, Item, Tombstone, Bad, Torn, stamp_field}

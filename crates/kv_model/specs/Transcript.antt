@@ -3,13 +3,14 @@ use Rattle.std.specs.Prelude.{◌≡◌, ℕ, ◌+◌, ◌^◌, ◌≤◌, ◌�
 use Rattle.std.specs.Prelude.{true, false}
 use Rattle.std.specs.List.{AllByRecursion, flat_map}
 use Rattle.kv_base.specs.declared.request.Request.{Request}
+use Rattle.kv_base.specs.declared.request.Request.TheVariants.{After}
 use Rattle.kv_base.specs.declared.reply.Reply.{Reply}
 use Rattle.kv_base.specs.declared.reply.Reply.TheVariants as reply
 use Rattle.kv_base.specs.declared.cause.Cause.{Cause}
 use Rattle.kv_base.specs.declared.cause.Cause.TheVariants.{End, Malformed, Limit, SourceFault}
 use Rattle.kv_base.specs.declared.cause.Cause.TheVariants.{SinkFault}
 use Rattle.kv_model.specs.Frames.{HasReplyFrame, reply_frame, BeginsWithRequests}
-use Rattle.kv_model.specs.Frames.{BeginsWithNoRequest, IsBad}
+use Rattle.kv_model.specs.Frames.{BeginsWithRequest, BeginsWithNoRequest, IsBad}
 use Rattle.kv_model.specs.Pairs.{Pair, requests_of, replies_in}
 use Rattle.kv_model.specs.Groups.{Groups, groups_of, all_groups, last_group}
 
@@ -46,12 +47,22 @@ EndsReading SourceFault taken rest ended closing = BeginsWithNoRequest rest × (
     × (IsBad rest false → ⊥) × (closing ≡ [])
 EndsReading SinkFault taken rest ended closing = ⊥
 
--- while reading went on, replies of the last group are left: each group that was handled had ended,
--- by its last request or by a Flush
-pub record BreaksOff (groups : Groups) (closing left : List Reply) : Type 0 where
-  pub whole : groups.current ≡ []
+-- an After comes next
+pub record BeginsWithAfter (rest : List ℕ) : Type 0 where
+  pub stamp : ℕ
+  pub behind : List ℕ
+  pub begins : BeginsWithRequest rest (After stamp) behind
+
+-- each group has ended: by its last request, by a Flush, or because an After comes next
+abbrev pub HaveEnded : Groups → List ℕ → Type 0
+HaveEnded groups rest = (groups.current ≡ []) ⊎ BeginsWithAfter rest
+
+-- while reading went on, replies of the last group are left, and each group that was handled had
+-- ended
+pub record BreaksOff (rest : List ℕ) (groups : Groups) (closing left : List Reply) : Type 0 where
+  pub whole : HaveEnded groups rest
   pub nothing : closing ≡ []
-  pub most : length left ≤ length (last_group groups.ended)
+  pub most : length left ≤ length (last_group (all_groups groups))
 
 -- where reading had ended, replies of the group that this ended are left, or what is replied behind
 -- it
@@ -70,7 +81,7 @@ Closes (Malformed offset) taken rest ended groups closing left =
 Closes Limit taken rest ended groups closing left = EndsReading Limit taken rest ended closing
 Closes SourceFault taken rest ended groups closing left =
     EndsReading SourceFault taken rest ended closing
-Closes SinkFault taken rest ended groups closing left = BreaksOff groups closing left
+Closes SinkFault taken rest ended groups closing left = BreaksOff rest groups closing left
     ⊎ EndsOff taken rest ended groups closing left
 
 -- replies are left over exactly after a fault of the sink
@@ -87,8 +98,8 @@ pub record HasTranscriptSoFar (taken given : List ℕ) (groups : List (List Pair
   pub handled : List Request
   pub rest : List ℕ
   pub fronts : BeginsWithRequests taken handled rest
-  pub whole : (groups_of handled).current ≡ []
-  pub grouped : map requests_of groups ≡ (groups_of handled).ended
+  pub whole : HaveEnded (groups_of handled) rest
+  pub grouped : map requests_of groups ≡ all_groups (groups_of handled)
   pub framed : AllByRecursion HasReplyFrame (replies_in groups)
   pub out : given ≡ flat_map reply_frame (replies_in groups)
 

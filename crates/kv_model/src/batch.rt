@@ -137,7 +137,7 @@ pub fn answer(
         }
         Request::Get { key } => get(alloc, found, written, stamp, key.as_slice()),
         Request::Delete { key } => delete(alloc, found, written, stamp, key.as_slice()),
-        Request::Flush => Ok(Reply::BadKey),
+        Request::Flush | Request::After { stamp: _ } => Ok(Reply::BadKey),
     }
 }
 

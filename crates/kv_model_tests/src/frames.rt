@@ -5,7 +5,8 @@ use kv_frames::{
 use std::alloc::{AllocError, Global};
 use std::test::*;
 
-/// What was parsed: a word, the key's length, the value's length and the frame's length.
+/// What was parsed: a word, the key's length or an After's stamp, the value's length and the
+/// frame's length.
 fn seen(bytes: &[u8]) -> (&'static str, usize, usize, usize) {
     match parse_request(bytes) {
         Parsed::Whole { request, length } => match request {
@@ -13,6 +14,7 @@ fn seen(bytes: &[u8]) -> (&'static str, usize, usize, usize) {
             RequestView::Get { key } => ("get", key.len(), 0, length),
             RequestView::Delete { key } => ("delete", key.len(), 0, length),
             RequestView::Flush => ("flush", 0, 0, length),
+            RequestView::After { stamp } => ("after", stamp as usize, 0, length),
         },
         Parsed::More => ("more", 0, 0, 0),
         Parsed::Malformed => ("malformed", 0, 0, 0),
@@ -26,7 +28,7 @@ type RequestRow = (
     &'static str,
 );
 
-static REQUESTS: [RequestRow; 24] = [
+static REQUESTS: [RequestRow; 29] = [
     (&[], ("more", 0, 0, 0), "nothing"),
     (&[0], ("more", 0, 0, 0), "one byte of a length"),
     (&[0, 0, 0], ("more", 0, 0, 0), "three bytes of a length"),
@@ -85,6 +87,31 @@ static REQUESTS: [RequestRow; 24] = [
         ("malformed", 0, 0, 0),
         "a Flush with a body",
     ),
+    (
+        &[9, 0, 0, 0, 6, 1, 2, 0, 0, 0, 0, 0, 0],
+        ("after", 513, 0, 13),
+        "an After",
+    ),
+    (
+        &[9, 0, 0, 0, 6, 1, 2, 0, 0, 0, 0, 0],
+        ("more", 0, 0, 0),
+        "an After but for its last byte",
+    ),
+    (
+        &[8, 0, 0, 0, 6, 1, 2, 0, 0, 0, 0, 0],
+        ("malformed", 0, 0, 0),
+        "an After with a body of seven bytes",
+    ),
+    (
+        &[10, 0, 0, 0, 6, 1, 2, 0, 0, 0, 0, 0, 0, 0],
+        ("malformed", 0, 0, 0),
+        "an After with a body of nine bytes",
+    ),
+    (
+        &[1, 0, 0, 0, 6],
+        ("malformed", 0, 0, 0),
+        "an After without a body",
+    ),
     (&[2, 0, 0, 0, 7, 0x61], ("malformed", 0, 0, 0), "kind 07"),
     (&[2, 0, 0, 0, 0, 0x61], ("malformed", 0, 0, 0), "kind 00"),
     (
@@ -120,11 +147,12 @@ fn the_longest_frames_are_parsed(rt: HostRuntime) -> Result<(), Fail> {
     Ok(())
 }
 
-static FRAMES: [&[u8]; 4] = [
+static FRAMES: [&[u8]; 5] = [
     &[4, 0, 0, 0, 1, 1, 0x61, 0x31],
     &[2, 0, 0, 0, 2, 0x61],
     &[2, 0, 0, 0, 3, 0x61],
     &[1, 0, 0, 0, 5],
+    &[9, 0, 0, 0, 6, 1, 2, 0, 0, 0, 0, 0, 0x80],
 ];
 
 #[test]
@@ -158,13 +186,15 @@ fn named(reply: &Reply) -> (&'static str, u64, usize) {
         Reply::Closed => ("closed", 0, 0),
         Reply::StampsSpent { number } => ("stamps spent", *number, 0),
         Reply::Malformed { offset } => ("malformed", *offset, 0),
+        Reply::Noted => ("noted", 0, 0),
+        Reply::Ahead { number } => ("ahead", *number, 0),
     }
 }
 
 /// A frame and the reply that it is.
 type ReplyRow = (&'static [u8], (&'static str, u64, usize));
 
-static REPLIES: [ReplyRow; 15] = [
+static REPLIES: [ReplyRow; 17] = [
     (
         &[9, 0, 0, 0, 0x81, 1, 0, 0, 0, 0, 0, 0, 0],
         ("stored", 1, 0),
@@ -208,6 +238,8 @@ static REPLIES: [ReplyRow; 15] = [
         &[9, 0, 0, 0, 0xE9, 8, 0, 0, 0, 0, 0, 0, 0],
         ("malformed", 8, 0),
     ),
+    (&[1, 0, 0, 0, 0x87], ("noted", 0, 0)),
+    (&[9, 0, 0, 0, 0xEA, 1, 0, 0, 0, 0, 0, 0, 0], ("ahead", 1, 0)),
 ];
 
 #[test]
@@ -226,7 +258,7 @@ fn replies_are_read_and_written_by_the_table_of_kinds(rt: HostRuntime) -> Result
 }
 
 /// Bytes that no reply begins, and whether more of them decide.
-static NO_REPLIES: [(&[u8], bool); 9] = [
+static NO_REPLIES: [(&[u8], bool); 11] = [
     (&[9, 0, 0, 0, 0x81, 1, 0, 0, 0, 0, 0, 0], true),
     (&[9, 0, 0], true),
     (&[0, 0, 0, 0], false),
@@ -235,6 +267,8 @@ static NO_REPLIES: [(&[u8], bool); 9] = [
     (&[2, 0, 0, 0, 0xE1, 0], false),
     (&[1, 0, 0, 0, 0xE3], false),
     (&[1, 0, 0, 0, 0xE8], false),
+    (&[2, 0, 0, 0, 0x87, 0], false),
+    (&[1, 0, 0, 0, 0xEA], false),
     (&[1, 0, 0, 0, 1], false),
 ];
 

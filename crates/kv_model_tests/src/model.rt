@@ -8,9 +8,11 @@ ghost use Rattle.kv_model.specs.SlotBytes.{item_bytes, tombstone_bytes};
 ghost use Rattle.kv_model.specs.Head.{head_page};
 ghost use Rattle.kv_model.specs.Reading.{page_of, offset_of};
 ghost use Rattle.kv_model.specs.Agreement.{AgreesWithMap, refusal_of};
-ghost use Rattle.kv_model.specs.Order.{RespectsOrder};
+ghost use Rattle.kv_model.specs.Order.{RespectsOrder, TellsCounter};
+ghost use Rattle.kv_model.specs.Pairs.{pairs_in};
 ghost use Rattle.kv_model.specs.Examples.{PutAndGet, GetOfNothing, RefusedThenPut, CutInside};
 ghost use Rattle.kv_model.specs.Examples.{SinkFails, SinkFailsBeforeTheEnd, GoesOn, GroupsEnd};
+ghost use Rattle.kv_model.specs.Examples.{SinkFailsBeforeAnAfter, ToldTwice, told_twice};
 ghost use Rattle.kv_model.specs.Examples.{put_and_get, slot_a, tombstone_4, head_2_of_3};
 ghost use Rattle.kv_model.specs.Examples.{key_a, value_1};
 ghost use Rattle.kv_model.specs.BatchExamples.{NoNetChange, LastPut, ThirdIsFull, UpdatesWhereFull};
@@ -30,16 +32,24 @@ fn sessions_have_their_transcripts()
     ensures cut { CutInside }
     ensures sink_fails { SinkFails }
     ensures sink_fails_before { SinkFailsBeforeTheEnd }
+    ensures sink_fails_before_after { SinkFailsBeforeAnAfter }
+    ensures told { ToldTwice }
     ensures goes_on { GoesOn }
 {}
 
-fn groups_end_at_64_requests_or_a_flush()
+fn groups_end_at_64_requests_a_flush_or_an_after()
     ensures { GroupsEnd }
 {}
 
 fn a_put_and_a_get_agree_with_the_map()
     ensures agrees { AgreesWithMap true (only_class 7) [] 0 put_and_get }
     ensures ordered { RespectsOrder (put_and_get ∷ []) }
+{}
+
+fn a_session_that_is_told_twice_agrees_with_the_map()
+    ensures agrees { AgreesWithMap true all_classes [] 0 (pairs_in told_twice) }
+    ensures ordered { RespectsOrder told_twice }
+    ensures counter { TellsCounter 0 told_twice }
 {}
 
 fn batches_have_their_answers()
@@ -100,8 +110,9 @@ fn slots_read_as_they_are_written()
 #[test]
 fn the_definitions_hold_of_the_worked_examples() {
     sessions_have_their_transcripts();
-    groups_end_at_64_requests_or_a_flush();
+    groups_end_at_64_requests_a_flush_or_an_after();
     a_put_and_a_get_agree_with_the_map();
+    a_session_that_is_told_twice_agrees_with_the_map();
     batches_have_their_answers();
     sizes_have_their_refusals();
     images_recover_prefixes();

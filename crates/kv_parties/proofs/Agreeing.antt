@@ -2,7 +2,7 @@
 use Rattle.std.proofs.Common.{◌≡◌, ◌≢◌, ◌⊎◌, inl, inr, ⊎_elim, ℕ, ◌+◌, ◌-◌, ◌^◌, ◌<◌, ◌≤◌, List, []}
 use Rattle.std.proofs.Common.{◌∷◌, ◌++◌, Option, None, Some, Bool, refl}
 use Rattle.std.proofs.Common.{sym, ap, ◌∙◌, subst, arith}
-use Rattle.std.specs.Prelude.{MatchOption, IsTrue, is_some, IfSome, option_and_then}
+use Rattle.std.specs.Prelude.{MatchOption, IsTrue, is_some, IsSomeAnd, option_and_then}
 use Rattle.std.specs.List.{AllByRecursion, cons_option}
 use Rattle.std.proofs.lemmas.Bool.Decides.{nat_tests}
 use Rattle.kv_base.specs.declared.request.Request.{Request}
@@ -157,7 +157,17 @@ pub owner-of : (workers worker : ℕ) (request : Request) (key : List ℕ) → I
     request
     → key_of request ≡ Some key → owner_of key workers ≡ worker
 owner-of workers worker request key owned e =
-    subst (λ o. IfSome o (λ k. owner_of k workers ≡ worker)) e owned
+    subst (λ o. IsSomeAnd o (λ k. owner_of k workers ≡ worker)) e owned
+
+-- and it is about a key
+pub owned-keyed : (workers worker : ℕ) (request : Request) → IsOwned workers worker request
+    → (key : List ℕ) × (key_of request ≡ Some key)
+owned-keyed workers worker request owned =
+    (elim (key_of request) as (λ o. IsSomeAnd o (λ k. owner_of k workers ≡ worker)
+    → (key : List ℕ) × (o ≡ Some key)) [
+      | None ↦ λ h. absurd h
+      | Some key ↦ λ h. (key, refl)
+    ]) owned
 
 -- each worker's own pairs: stamps of its ranges, keys that it owns, and right by its own writes
 -- alone

@@ -10,12 +10,12 @@ use Rattle.std.specs.List.{AllByRecursion, filter, list_any}
 use Rattle.kv_base.specs.Calls.{next_count}
 use Rattle.kv_base.specs.Partition.{owner_of}
 use Rattle.kv_base.specs.declared.request.Request.{Request}
-use Rattle.kv_base.specs.declared.request.Request.TheVariants.{Put, Get, Delete, Flush}
+use Rattle.kv_base.specs.declared.request.Request.TheVariants.{Put, Get, Delete, Flush, After}
 use Rattle.kv_base.specs.declared.reply.Reply.{Reply}
 use Rattle.kv_base.specs.declared.reply.Reply.TheVariants.{Full}
-use Rattle.kv_base.specs.declared.reply.Reply.TheVariants.{Closed, StampsSpent}
+use Rattle.kv_base.specs.declared.reply.Reply.TheVariants.{Closed, StampsSpent, Noted, Ahead}
 use Rattle.kv_stamps.specs.declared.view.Range.{Range}
-use Rattle.kv_model.specs.Agreement.{AgreesWithMap, IsAnswer}
+use Rattle.kv_model.specs.Agreement.{AgreesWithMap, IsAnswer, IsCounterAnswer}
 use Rattle.kv_model.specs.Batch.{class_written}
 use Rattle.kv_model.specs.History.{Write}
 use Rattle.kv_model.specs.Layout.{Layout}
@@ -32,7 +32,8 @@ use Rattle.kv_parties.proofs.Lists.{In-filter-back, In-row, sum_below-le, sum_be
 use Rattle.kv_parties.proofs.Lists.{sum_below-at, eq_self}
 use Rattle.kv_parties.proofs.Owned.{IsHere, refuses}
 use Rattle.kv_parties.proofs.Parts.{owner-lt}
-use Rattle.kv_parties.proofs.Agreeing.{weigh, weigh-append, weigh-le, owner-of, Owns, Fits}
+use Rattle.kv_parties.proofs.Agreeing.{weigh, weigh-append, weigh-le, owner-of, owned-keyed, Owns}
+use Rattle.kv_parties.proofs.Agreeing.{Fits}
 use Rattle.kv_parties.proofs.Recovering.{of-is, left_by, left-In, In-left_by}
 
 -- 1 where the pair passes the test, and else 0
@@ -238,14 +239,23 @@ Contains-In x [] has = absurd (omega (arith, has.1))
 Contains-In x (y ∷ xs) has = ⊎_elim (λ (e : y ≡ x). inl e)
     (λ (later : Contains xs x). inr (Contains-In x xs later)) (Contains-cons y xs x has)
 
--- an answered request is about a key
-answered-keyed : (told : Bool) (layout : Layout) (history : List Write) (request : Request)
-    (reply : Reply) → IsAnswer told layout history request reply
+-- an After's reply is sure
+looked-sure : (stamp : ℕ) (reply : Reply) → IsCounterAnswer stamp reply → is_unsure reply ≡ true
+    → ⊥
+looked-sure stamp Noted answer e = cc
+looked-sure stamp (Ahead n) answer e = cc
+looked-sure stamp reply answer e = absurd answer
+
+-- an answered request that is unsure is about a key
+unsure-keyed : (told : Bool) (layout : Layout) (history : List Write) (request : Request)
+    (reply : Reply) → IsAnswer told layout history request reply → is_unsure reply ≡ true
     → (key : List ℕ) × (key_of request ≡ Some key)
-answered-keyed told layout history (Put key value) reply answer = (key, refl)
-answered-keyed told layout history (Get key) reply answer = (key, refl)
-answered-keyed told layout history (Delete key) reply answer = (key, refl)
-answered-keyed told layout history Flush reply answer = absurd answer
+unsure-keyed told layout history (Put key value) reply answer e = (key, refl)
+unsure-keyed told layout history (Get key) reply answer e = (key, refl)
+unsure-keyed told layout history (Delete key) reply answer e = (key, refl)
+unsure-keyed told layout history Flush reply answer e = absurd answer
+unsure-keyed told layout history (After s) reply answer e =
+    absurd (looked-sure s reply answer e)
 
 module _ (setting : Setting) (before : ℕ → List Write) (base : IsBefore setting before)
     (own : ℕ → List Pair) (ranges : ℕ → List Range) (owns_all : Owns setting before own ranges)
@@ -254,12 +264,9 @@ module _ (setting : Setting) (before : ℕ → List Write) (base : IsBefore sett
   owned-is : (v w : ℕ) (p : Pair) → v < setting.workers → In p (own v)
       → owns setting.workers w (key_of p.request) ≡ nat_eq v w
   owned-is v w p lt i =
-      let answer = All-In (λ (q : Pair). IsAnswer setting.told setting.layout
-      (before v ++ writes (own v)) q.request q.reply) p (own v) (owns_all.replies v lt) i in
-      let k = answered-keyed setting.told setting.layout (before v ++ writes (own v)) p.request
-      p.reply answer in
       let owned = All-In (λ (q : Pair). IsOwned setting.workers v q.request) p (own v)
       (owns_all.owned v lt) i in
+      let k = owned-keyed setting.workers v p.request owned in
       ap (owns setting.workers w) k.1
       ∙ ap (λ n. nat_eq n w) (owner-of setting.workers v p.request k.0 owned k.1)
 
@@ -299,7 +306,7 @@ module _ (setting : Setting) (before : ℕ → List Write) (base : IsBefore sett
       (λ (a : In r.0 (own w)). any-In is_unsure_pair r.0 (own w) a r.2)
       (λ (b : IsHere setting.layout r.0).
       let no : is_unsure_pair r.0 ≡ false =
-      refuses (λ reply. is_unsure reply ≡ false) refl refl refl setting.layout r.0 b in
+      refuses (λ reply. is_unsure reply ≡ false) refl refl refl refl (λ n. refl) setting.layout r.0 b in
       let never : true ≡ false = sym r.2 ∙ no in absurd (cc))
       (from-owned w r.0 r.1))
     where
@@ -460,7 +467,7 @@ module _ (setting : Setting) (before : ℕ → List Write) (base : IsBefore sett
         omega (
           arith,
           count-owned w tells_fault
-              (refuses (λ reply. is_fault reply ≡ false) refl refl refl setting.layout) lt,
+              (refuses (λ reply. is_fault reply ≡ false) refl refl refl refl (λ n. refl) setting.layout) lt,
           ap (weigh (mark tells_fault)) same,
           faults-few batches faults keeps.few (subst (λ n. n < 2 ^ 64 - 1) keeps.counted top),
           keeps.counted,
@@ -475,7 +482,7 @@ module _ (setting : Setting) (before : ℕ → List Write) (base : IsBefore sett
     unsure = omega (
       arith,
       count-owned w is_unsure_pair
-          (refuses (λ reply. is_unsure reply ≡ false) refl refl refl setting.layout) lt,
+          (refuses (λ reply. is_unsure reply ≡ false) refl refl refl refl (λ n. refl) setting.layout) lt,
       ap (weigh (mark is_unsure_pair)) same,
       unsure-few batches keeps.few keeps.closes,
     );
@@ -488,11 +495,12 @@ module _ (setting : Setting) (before : ℕ → List Write) (base : IsBefore sett
         (to-owned w r.0 lt (subst (In r.0) same r.1)) r.2)
         (λ (b : IsHere setting.layout p).
         absurd (refuses (λ reply. reply ≡ Closed → ⊥) (λ e. absurd (cc)) (λ e. absurd (cc))
-        (λ e. absurd (cc)) setting.layout p b e))
+        (λ e. absurd (cc)) (λ e. absurd (cc)) (λ n e. absurd (cc)) setting.layout p b e))
         (from-owned w p i));
     spent = each-owned w (IsSpentAt runs) (subst (AllByRecursion (IsSpentAt runs)) same keeps.spent)
         (λ p b number e. absurd (refuses (λ reply. reply ≡ StampsSpent number → ⊥)
-        (λ e. absurd (cc)) (λ e. absurd (cc)) (λ e. absurd (cc)) setting.layout p b e));
+        (λ e. absurd (cc)) (λ e. absurd (cc)) (λ e. absurd (cc)) (λ e. absurd (cc))
+        (λ n e. absurd (cc)) setting.layout p b e));
     full = λ told.
         let each : AllByRecursion (IsFullAt setting.layout setting.slots
         (all_writes (before w) (own w))) (own w) =
@@ -502,19 +510,15 @@ module _ (setting : Setting) (before : ℕ → List Write) (base : IsBefore sett
         (All-In (IsFullAt setting.layout setting.slots (all_writes (before w) (own w))) p (own w)
         each i)))
         (λ p b class e. absurd (refuses (λ reply. reply ≡ Full class → ⊥) (λ e. absurd (cc))
-        (λ e. absurd (cc)) (λ e. absurd (cc)) setting.layout p b e));
+        (λ e. absurd (cc)) (λ e. absurd (cc)) (λ e. absurd (cc)) (λ n e. absurd (cc))
+        setting.layout p b e));
   }
 
--- each of the pairs is about a key that a worker owns
-pub some-owner : (setting : Setting) (history : List Write) (pairs : List Pair)
-    → 1 ≤ setting.workers
-    → AgreesWithMap setting.told setting.layout history setting.floor pairs → (p : Pair)
-    → In p pairs → (w : ℕ) × (w < setting.workers) × In p (owned_pairs setting.workers w pairs)
-some-owner setting history pairs some right p i =
-    let answer = All-In (λ (q : Pair). IsAnswer setting.told setting.layout
-    (history ++ writes pairs) q.request q.reply) p pairs right.replies i in
-    let k = answered-keyed setting.told setting.layout (history ++ writes pairs) p.request p.reply
-    answer in
+-- a pair about a key is about one that a worker owns
+pub some-owner : (setting : Setting) (pairs : List Pair) → 1 ≤ setting.workers → (p : Pair)
+    → (key : List ℕ) × (key_of p.request ≡ Some key) → In p pairs
+    → (w : ℕ) × (w < setting.workers) × In p (owned_pairs setting.workers w pairs)
+some-owner setting pairs some p k i =
     let w : ℕ = owner_of k.0 setting.workers in (
       w,
       owner-lt setting.layout setting.workers some k.0,
@@ -530,7 +534,11 @@ pub unsure-owner : (setting : Setting) (history : List Write) (pairs : List Pair
     → (w : ℕ) × (w < setting.workers) × (any_unsure (owned_pairs setting.workers w pairs) ≡ true)
 unsure-owner setting history pairs some right e =
     let r = any-back is_unsure_pair pairs e in
-    let o = some-owner setting history pairs some right r.0 r.1 in
+    let answer = All-In (λ (q : Pair). IsAnswer setting.told setting.layout
+    (history ++ writes pairs) q.request q.reply) r.0 pairs right.replies r.1 in
+    let k = unsure-keyed setting.told setting.layout (history ++ writes pairs) r.0.request r.0.reply
+    answer r.2 in
+    let o = some-owner setting pairs some r.0 k r.1 in
     (o.0, o.1, any-In is_unsure_pair r.0 (owned_pairs setting.workers o.0 pairs) o.2 r.2)
 
 pub unsure-among : (workers w : ℕ) (pairs : List Pair)

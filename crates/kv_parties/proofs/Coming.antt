@@ -6,16 +6,17 @@ use Rattle.std.specs.List.{AllByRecursion}
 use Rattle.kv_base.specs.declared.reply.Reply.{Reply}
 use Rattle.kv_base.specs.declared.request.Request.{Request}
 use Rattle.kv_model.specs.Pairwise.{Pairwise}
-use Rattle.kv_model.specs.Pairs.{Pair, stamps}
+use Rattle.kv_model.specs.Pairs.{Pair, seen_in}
 use Rattle.kv_parties.specs.Setting.{Setting}
 use Rattle.kv_parties.specs.Groups.{Asked, Answers, replies_of}
 use Rattle.kv_parties.specs.Sessions.{Exchange, exchange_pairs, part_of, asked_by, replied_by}
 use Rattle.kv_parties.specs.Sessions.{all_asked}
-use Rattle.kv_parties.specs.Sessions.{all_replied, IsHandled, greatest, seen_behind, HaveSeen}
+use Rattle.kv_parties.specs.Sessions.{all_replied, IsExchange, greatest, seen_behind, HaveSeen}
 use Rattle.kv_parties.specs.Sessions.{IsPending}
 use Rattle.kv_parties.proofs.Rings.{Rings, Course, RingsKeep}
 use Rattle.kv_stamps.specs.declared.view.Range.{Range}
 use Rattle.kv_model.specs.History.{Write}
+use Rattle.kv_parties.proofs.Owned.{IsGiven, all_given}
 use Rattle.kv_parties.proofs.Parts.{answered_by, all_parts}
 
 abbrev first_of : {X : Type 0} → X → List X → X
@@ -97,11 +98,11 @@ Answers-fewer (group ∷ asked) (pairs ∷ answered) more h = (
 )
 
 -- the greatest is at least the number and each of the others
-greatest-from : (number : ℕ) (xs : List ℕ) → number ≤ greatest number xs
+pub greatest-from : (number : ℕ) (xs : List ℕ) → number ≤ greatest number xs
 greatest-from number [] = omega arith
 greatest-from number (x ∷ xs) = omega (arith, greatest-from (max number x) xs)
 
-greatest-above : (number : ℕ) (xs : List ℕ) → AllByRecursion (λ x. x ≤ greatest number xs) xs
+pub greatest-above : (number : ℕ) (xs : List ℕ) → AllByRecursion (λ x. x ≤ greatest number xs) xs
 greatest-above number [] = tt
 greatest-above number (x ∷ xs) =
     (omega (arith, greatest-from (max number x) xs), greatest-above (max number x) xs)
@@ -122,28 +123,28 @@ seen-later seen exchanges have = from seen seen exchanges (omega arith) have
     from low seen [] le have = tt
     from low seen (x ∷ exchanges) le have = (
       omega (arith, le, have.0),
-      from low (greatest seen (stamps (exchange_pairs x))) exchanges
-          (omega (arith, le, greatest-from seen (stamps (exchange_pairs x)))) have.1,
+      from low (greatest seen (seen_in (exchange_pairs x))) exchanges
+          (omega (arith, le, greatest-from seen (seen_in (exchange_pairs x)))) have.1,
     )
 
 seen-pairwise : (seen : ℕ) (exchanges : List Exchange) → HaveSeen seen exchanges
     → Pairwise (λ exchange next. AllByRecursion (λ stamp. stamp ≤ next.seen)
-    (stamps (exchange_pairs exchange))) exchanges
+    (seen_in (exchange_pairs exchange))) exchanges
 seen-pairwise seen [] have = tt
 seen-pairwise seen (x ∷ exchanges) have =
-    let now : ℕ = greatest seen (stamps (exchange_pairs x)) in (
+    let now : ℕ = greatest seen (seen_in (exchange_pairs x)) in (
       each exchanges (seen-later now exchanges have.1),
       seen-pairwise now exchanges have.1,
     )
   where
     each : (later : List Exchange)
-        → AllByRecursion (λ next. greatest seen (stamps (exchange_pairs x)) ≤ next.seen) later
+        → AllByRecursion (λ next. greatest seen (seen_in (exchange_pairs x)) ≤ next.seen) later
         → AllByRecursion (λ next. AllByRecursion (λ stamp. stamp ≤ next.seen)
-        (stamps (exchange_pairs x))) later
+        (seen_in (exchange_pairs x))) later
     each [] all = tt
     each (next ∷ later) all = (
-      All-below (greatest seen (stamps (exchange_pairs x))) next.seen (stamps (exchange_pairs x))
-          all.0 (greatest-above seen (stamps (exchange_pairs x))),
+      All-below (greatest seen (seen_in (exchange_pairs x))) next.seen (seen_in (exchange_pairs x))
+          all.0 (greatest-above seen (seen_in (exchange_pairs x))),
       each later all.1,
     )
 
@@ -168,9 +169,10 @@ pub record SessionPairs (setting : Setting) (asked : ℕ → List Asked) (heard 
   pub answers : (worker : ℕ) (lt : worker < setting.workers)
       → heard worker ≡ all_parts setting.workers worker exchanges ++ coming worker lt
   pub seen : Pairwise (λ exchange next. AllByRecursion (λ stamp. stamp ≤ next.seen)
-      (stamps (exchange_pairs exchange))) exchanges
-  pub handled : AllByRecursion (λ exchange. AllByRecursion (IsHandled setting.layout)
+      (seen_in (exchange_pairs exchange))) exchanges
+  pub handled : AllByRecursion (λ exchange. AllByRecursion (IsGiven setting.layout)
       exchange.handled) exchanges
+  pub kinds : AllByRecursion (IsExchange setting.layout) exchanges
 
 module _ (setting : Setting) (before : ℕ → List Write) (rings : Rings) (ranges : ℕ → List Range)
     (courses : ℕ → Course) (keep : RingsKeep setting before rings ranges courses) where
@@ -211,5 +213,6 @@ module _ (setting : Setting) (before : ℕ → List Write) (rings : Rings) (rang
         asks = tale.asks;
         answers = λ w less. (come w less).1;
         seen = seen-pairwise 0 tale.exchanges tale.seen;
-        handled = tale.handled;
+        handled = all_given setting.layout tale.exchanges tale.handled;
+        kinds = tale.handled;
       }

@@ -1,21 +1,26 @@
 -- The promises of all parties together.
-use Rattle.std.proofs.Common.{◌≡◌, ◌⊎◌, inl, inr, ℕ, zero, suc, ◌+◌, ◌^◌, ◌<◌, ◌≤◌, List}
+use Rattle.std.proofs.Common.{◌≡◌, ◌⊎◌, inl, inr, ⊎_elim, Option, None, ℕ, zero, suc, ◌+◌}
+use Rattle.std.proofs.Common.{◌^◌, ◌<◌, ◌≤◌, List}
 use Rattle.std.proofs.Common.{[], ◌∷◌, ◌++◌, map, true, false, cond, refl, sym, ap, ◌∙◌}
 use Rattle.std.proofs.Common.{subst, arith, append-nil}
-use Rattle.std.specs.Prelude.{nat_eq}
+use Rattle.std.specs.Prelude.{nat_eq, IsSome, IfSome}
 use Rattle.std.specs.List.{AllByRecursion, filter}
 use Rattle.kv_base.specs.Partition.{owner_of}
 use Rattle.kv_stamps.specs.Ranges.{among}
 use Rattle.kv_stamps.specs.declared.view.Range.{Range}
 use Rattle.kv_model.specs.History.{Write}
-use Rattle.kv_model.specs.Pairs.{Pair, writes, stamps, pairs_in}
+use Rattle.kv_model.specs.Pairs.{Pair, writes, stamps, counter_by, counter_numbers, pairs_in}
+use Rattle.kv_model.specs.Pairs.{key_of}
 use Rattle.kv_model.specs.Agreement.{IsAnswer}
-use Rattle.kv_model.specs.Order.{RespectsOrder}
+use Rattle.kv_model.specs.Order.{RespectsOrder, IsCountedAfter}
+use Rattle.kv_model.specs.Pairwise.{Pairwise}
+use Rattle.kv_model.proofs.CounterLemmas.{keyed-counts}
 use Rattle.kv_parties.specs.Rows.{sum_below, row}
 use Rattle.kv_parties.specs.Setting.{Setting, IsOwned}
 use Rattle.kv_parties.specs.Groups.{Asked, Answers}
 use Rattle.kv_parties.specs.Workers.{Done, done_pairs, done_for}
-use Rattle.kv_parties.specs.Sessions.{Handled, IsHandled, Exchange, exchange_pairs}
+use Rattle.kv_parties.specs.Sessions.{Handled, IsHandled, Exchange, IsExchange, IsLook}
+use Rattle.kv_parties.specs.Sessions.{exchange_pairs}
 use Rattle.kv_parties.specs.Sessions.{part_of}
 use Rattle.kv_parties.specs.Sessions.{all_asked}
 use Rattle.kv_parties.specs.Begun.{IsBefore}
@@ -23,14 +28,15 @@ use Rattle.kv_parties.proofs.Rings.{Rings, Course, RingsKeep, IsQuiet, rings_ans
 use Rattle.kv_parties.proofs.Rings.{courses_pairs}
 use Rattle.kv_parties.proofs.Lists.{In, eq_self, count, In-left, All-In, In-row}
 use Rattle.kv_parties.proofs.Lists.{In-row-back, In-filter, In-filter-back, In-map, In-map-back}
+use Rattle.kv_parties.proofs.Lists.{In-filter_map-back}
 use Rattle.kv_parties.proofs.Lists.{In-flat_map-back, flat_map-append, count-within, sum_below-le}
 use Rattle.kv_parties.proofs.Lists.{sum_below-same, sum_below-zero, sum_below-add, sum_below-swap}
 use Rattle.kv_parties.proofs.Lists.{sum_below-one, at_least}
-use Rattle.kv_parties.proofs.Owned.{IsHere}
+use Rattle.kv_parties.proofs.Owned.{IsHere, IsGiven}
 use Rattle.kv_parties.proofs.Agreeing.{weigh, weigh-append, Owns, Fits}
 use Rattle.kv_parties.proofs.Parts.{here, all_parts, IsOrdered}
 use Rattle.kv_parties.proofs.Parts.{parts_ordered, owner-lt, routed_to_owner, weigh-exchanges}
-use Rattle.kv_parties.proofs.Parts.{exchanges-weigh}
+use Rattle.kv_parties.proofs.Parts.{exchanges-weigh, counted_exchanges}
 use Rattle.kv_parties.proofs.Parts.{across_exchanges, within_exchanges, in_answered, out_answered}
 use Rattle.kv_parties.proofs.Coming.{Answers-fewer, SessionPairs, heard_answers, pairs_of_session}
 
@@ -311,10 +317,10 @@ module _ (setting : Setting) (before : ℕ → List Write) (rings : Rings) (rang
       let there : In g.0 (map exchange_pairs tale.exchanges) = subst (In g.0) tale.same g.2 in
       let r = In-map-back exchange_pairs g.0 tale.exchanges there in
       let h = In-map-back (λ (x : Handled). x.pair) p r.0.handled (subst (In p) (sym r.1) g.1) in
-      let all = All-In (λ (x : Exchange). AllByRecursion (IsHandled setting.layout)
+      let all = All-In (λ (x : Exchange). AllByRecursion (IsGiven setting.layout)
       x.handled)
       r.0 tale.exchanges tale.handled r.2 in
-      let is = All-In (IsHandled setting.layout) h.0 r.0.handled all h.2 in
+      let is = All-In (IsGiven setting.layout) h.0 r.0.handled all h.2 in
       (elim h.0.routed as (λ b. h.0.routed ≡ b → ((w : ℕ) × (w < setting.workers) × In p (own w))
       ⊎ IsHere setting.layout p) [
         | true ↦ λ e.
@@ -333,6 +339,42 @@ module _ (setting : Setting) (before : ℕ → List Write) (rings : Rings) (rang
         | false ↦ λ e. inr (subst (IsHere setting.layout) h.1
             (here setting.layout setting.workers base.some_worker h.0 is e))
       ]) refl
+
+  -- a number of the counter that a session tells is above what it had seen
+  counter_above : (s : ℕ) (lt : s < setting.sessions) (r : Exchange)
+      → In r (of_session s lt).exchanges → (number : ℕ)
+      → In number (counter_numbers (exchange_pairs r)) → r.seen < number
+  counter_above s lt r j number i =
+      let tale = of_session s lt in
+      let made = In-filter_map-back (λ (p : Pair). counter_by p.request p.reply) number
+      (exchange_pairs r) i in
+      let p : Pair = made.0 in
+      ⊎_elim
+      (λ (all : AllByRecursion (IsHandled setting.layout) r.handled).
+      let h = In-map-back (λ (x : Handled). x.pair) p r.handled made.2 in
+      let is = All-In (IsHandled setting.layout) h.0 r.handled all h.2 in
+      let none : counter_by p.request p.reply ≡ None = keyed-counts p.request p.reply
+      (subst (λ (q : Pair). IsSome (key_of q.request)) h.1 is.keyed) in
+      let some = made.1 in
+      absurd (cc))
+      (λ (look : IsLook r).
+      let alone : exchange_pairs r ≡ look.pair ∷ [] =
+      ap (λ (hs : List Handled). map (λ (x : Handled). x.pair) hs) look.alone in
+      let only : look.pair ≡ p = one_of p look.pair (subst (In p) alone made.2) in
+      subst (λ (o : Option ℕ). IfSome o (λ number. r.seen < number))
+      (ap (λ (q : Pair). counter_by q.request q.reply) only ∙ made.1) look.above)
+      (All-In (IsExchange setting.layout) r tale.exchanges tale.kinds j)
+    where
+      one_of : (p q : Pair) → In p (q ∷ []) → q ≡ p
+      one_of p q (inl e) = e
+      one_of p q (inr i) = absurd i
+
+  pub counted_groups : (s : ℕ) → s < setting.sessions → Pairwise IsCountedAfter (courses s).groups
+  counted_groups s lt =
+      let tale = of_session s lt in
+      subst (Pairwise IsCountedAfter) (sym tale.same)
+      (counted_exchanges setting.layout setting.workers base.some_worker tale.exchanges tale.seen
+      (λ r i number k. counter_above s lt r i number k))
 
   module _ (quiet : IsQuiet setting rings courses) where
     came_all : (s : ℕ) (lt : s < setting.sessions) (w : ℕ) → w < setting.workers

@@ -8,19 +8,20 @@ use Rattle.std.proofs.Math.Nat.{mod-lt}
 use Rattle.kv_base.specs.Partition.{owner_of, hash_of}
 use Rattle.kv_model.specs.Pairwise.{Pairwise}
 use Rattle.kv_model.specs.Layout.{Layout}
-use Rattle.kv_model.specs.Pairs.{Pair, stamps, key_of, stamp_of, pairs_in}
-use Rattle.kv_model.specs.Order.{IsAfter, Rises, RisesForKey}
+use Rattle.kv_model.specs.Pairs.{Pair, stamps, seen_in, counter_numbers, key_of, stamp_of}
+use Rattle.kv_model.specs.Pairs.{pairs_in}
+use Rattle.kv_model.specs.Order.{IsAfter, IsCountedAfter, Rises, RisesForKey}
 use Rattle.kv_parties.specs.Rows.{sum_below}
 use Rattle.kv_parties.specs.Setting.{owns}
 use Rattle.kv_parties.specs.Groups.{Asked, Answers}
-use Rattle.kv_parties.specs.Sessions.{Handled, IsHandled, Exchange, exchange_pairs, goes_to}
+use Rattle.kv_parties.specs.Sessions.{Handled, Exchange, exchange_pairs, goes_to}
 use Rattle.kv_parties.specs.Sessions.{part_of}
 use Rattle.kv_parties.specs.Sessions.{asked_by, all_asked}
 use Rattle.kv_parties.proofs.Lists.{In, eq_self, In-left, In-right, In-append, All-In, In-All}
 use Rattle.kv_parties.proofs.Lists.{In-filter, In-filter-back, In-map, In-map-back}
 use Rattle.kv_parties.proofs.Lists.{In-filter_map-back, sum_below-same, sum_below-add, at_least}
 use Rattle.kv_parties.proofs.Lists.{sum_below-zero, sum_below-one}
-use Rattle.kv_parties.proofs.Owned.{IsHere, stampless}
+use Rattle.kv_parties.proofs.Owned.{IsHere, IsGiven, stampless}
 use Rattle.kv_parties.proofs.Agreeing.{weigh, weigh-append, stamp-In}
 
 some-of : {X : Type 0} (o : Option X) → IsSome o → (x : X) × (o ≡ Some x)
@@ -85,18 +86,18 @@ module _ (layout : Layout) (n : ℕ) (some : 1 ≤ n) where
   goes-by h key r e w = ap (λ b. b && owns n w (key_of h.pair.request)) r ∙ ap (owns n w) e
 
   -- a pair that was routed went to the owner of its key
-  pub routed_to_owner : (h : Handled) → IsHandled layout h → h.routed ≡ true
+  pub routed_to_owner : (h : Handled) → IsGiven layout h → h.routed ≡ true
       → (key : List ℕ) × (key_of h.pair.request ≡ Some key) × (goes_to n (owner_of key n) h ≡ true)
   routed_to_owner h is r =
-      let k = some-of (key_of h.pair.request) is.keyed in
+      let k = some-of (key_of h.pair.request) (is.keyed r) in
       (k.0, k.1, goes-by h k.0 r k.1 (owner_of k.0 n) ∙ eq_self (owner_of k.0 n))
 
   -- a pair that wasn't routed is the session's own
-  pub here : (h : Handled) → IsHandled layout h → h.routed ≡ false → IsHere layout h.pair
-  here h is r = record { keyed = is.keyed; own = is.own r }
+  pub here : (h : Handled) → IsGiven layout h → h.routed ≡ false → IsHere layout h.pair
+  here h is r = is.here r
 
   -- a pair with a stamp was routed
-  stamped_routed : (h : Handled) (t : ℕ) → IsHandled layout h → stamp_of h.pair.reply ≡ Some t
+  stamped_routed : (h : Handled) (t : ℕ) → IsGiven layout h → stamp_of h.pair.reply ≡ Some t
       → h.routed ≡ true
   stamped_routed h t is e =
       (elim h.routed as (λ b. h.routed ≡ b → b ≡ true) [
@@ -112,7 +113,7 @@ module _ (layout : Layout) (n : ℕ) (some : 1 ≤ n) where
       (In-filter (goes_to n w) h handled e i)
 
   -- within a group stamps rise for each key
-  within_group : (handled : List Handled) → AllByRecursion (IsHandled layout) handled
+  within_group : (handled : List Handled) → AllByRecursion (IsGiven layout) handled
       → ((w : ℕ) → w < n → Pairwise ◌<◌ (stamps (part_of n w handled)))
       → Pairwise RisesForKey (map (λ (h : Handled). h.pair) handled)
   within_group [] is parts = tt
@@ -125,7 +126,7 @@ module _ (layout : Layout) (n : ℕ) (some : 1 ≤ n) where
         let w : ℕ = owner_of of_h.0 n in
         let f_g : stamp_of g.pair.reply ≡ Some o = ap (λ (x : Pair). stamp_of x.reply) back.1 ∙ f
         in
-        let is_g : IsHandled layout g = All-In (IsHandled layout) g handled is.1 back.2
+        let is_g : IsGiven layout g = All-In (IsGiven layout) g handled is.1 back.2
         in
         let key_g : key_of g.pair.request ≡ Some of_h.0 =
         ap (λ (x : Pair). key_of x.request) back.1 ∙ (sym same ∙ of_h.1) in
@@ -246,7 +247,7 @@ module _ (layout : Layout) (n : ℕ) (some : 1 ≤ n) where
 
   module _ (f : Pair → ℕ) (none : (p : Pair) → IsHere layout p → f p ≡ 0) where
     -- a pair of a group counts in a worker's part, or not at all
-    counts-once : (h : Handled) → IsHandled layout h
+    counts-once : (h : Handled) → IsGiven layout h
         → f h.pair ≤ sum_below n (λ w. cond (goes_to n w h) (f h.pair) 0)
     counts-once h is =
         (elim h.routed as (λ b. h.routed ≡ b
@@ -267,7 +268,7 @@ module _ (layout : Layout) (n : ℕ) (some : 1 ≤ n) where
         ]) refl
 
     -- the pairs of a group are those of the workers' parts, and the session's own
-    weigh-parts : (handled : List Handled) → AllByRecursion (IsHandled layout) handled
+    weigh-parts : (handled : List Handled) → AllByRecursion (IsGiven layout) handled
         → weigh f (map (λ (x : Handled). x.pair) handled)
         ≤ sum_below n (λ w. weigh f (part_of n w handled))
     weigh-parts [] is = omega arith
@@ -284,7 +285,7 @@ module _ (layout : Layout) (n : ℕ) (some : 1 ≤ n) where
         )
 
     pub weigh-exchanges : (exchanges : List Exchange)
-        → AllByRecursion (λ exchange. AllByRecursion (IsHandled layout) exchange.handled) exchanges
+        → AllByRecursion (λ exchange. AllByRecursion (IsGiven layout) exchange.handled) exchanges
         → weigh f (pairs_in (map exchange_pairs exchanges))
         ≤ sum_below n (λ w. weigh f (pairs_in (all_parts n w exchanges)))
     weigh-exchanges [] is = omega arith
@@ -304,7 +305,7 @@ module _ (layout : Layout) (n : ℕ) (some : 1 ≤ n) where
         )
 
   -- a stamp of a exchange is above what its session had seen
-  stamp_after : (r : Exchange) (o : ℕ) → AllByRecursion (IsHandled layout) r.handled
+  stamp_after : (r : Exchange) (o : ℕ) → AllByRecursion (IsGiven layout) r.handled
       → ((w : ℕ) → w < n → IsOrdered r.seen (part_of n w r.handled)) → In o (stamps (exchange_pairs
       r))
       → r.seen < o
@@ -314,17 +315,16 @@ module _ (layout : Layout) (n : ℕ) (some : 1 ≤ n) where
       let h : Handled = back.0 in
       let e : stamp_of h.pair.reply ≡ Some o = ap (λ (x : Pair). stamp_of x.reply) back.1 ∙ made.1
       in
-      let is_h : IsHandled layout h = All-In (IsHandled layout) h r.handled is back.2 in
+      let is_h : IsGiven layout h = All-In (IsGiven layout) h r.handled is back.2 in
       let to = routed_to_owner h is_h (stamped_routed h o is_h e) in
       let w : ℕ = owner_of to.0 n in
       All-In (λ z. r.seen < z) o (stamps (part_of n w r.handled)) (parts w (owner-lt to.0)).0
       (stamp-In o h.pair (part_of n w r.handled) e (in_part h w r.handled to.2 back.2))
 
   pub across_exchanges : (exchanges : List Exchange)
-      → Pairwise (λ exchange next. AllByRecursion (λ stamp. stamp ≤ next.seen) (stamps
-      (exchange_pairs
-      exchange))) exchanges
-      → AllByRecursion (λ exchange. AllByRecursion (IsHandled layout) exchange.handled)
+      → Pairwise (λ exchange next. AllByRecursion (λ seen. seen ≤ next.seen)
+      (seen_in (exchange_pairs exchange))) exchanges
+      → AllByRecursion (λ exchange. AllByRecursion (IsGiven layout) exchange.handled)
       exchanges
       → ((w : ℕ) → w < n
       → AllByRecursion (λ exchange. IsOrdered exchange.seen (part_of n w exchange.handled))
@@ -335,15 +335,15 @@ module _ (layout : Layout) (n : ℕ) (some : 1 ≤ n) where
     In-All _ (map exchange_pairs exchanges) (λ q j.
         let back = In-map-back exchange_pairs q exchanges j in
         let g : Exchange = back.0 in
-        let saw = All-In (λ (next : Exchange). AllByRecursion (λ stamp. stamp ≤ next.seen)
-        (stamps (exchange_pairs r))) g exchanges seen.0 back.2 in
-        In-All _ (stamps (exchange_pairs r)) (λ t i. In-All _ (stamps q) (λ o k.
-        let low : t ≤ g.seen = All-In (λ z. z ≤ g.seen) t (stamps (exchange_pairs r)) saw i in
+        let saw = All-In (λ (next : Exchange). AllByRecursion (λ seen. seen ≤ next.seen)
+        (seen_in (exchange_pairs r))) g exchanges seen.0 back.2 in
+        In-All _ (seen_in (exchange_pairs r)) (λ t i. In-All _ (stamps q) (λ o k.
+        let low : t ≤ g.seen = All-In (λ z. z ≤ g.seen) t (seen_in (exchange_pairs r)) saw i in
         let in_g : In o (stamps (exchange_pairs g)) = subst (λ ps. In o (stamps ps)) (sym back.1)
         k
         in
         let high : g.seen < o = stamp_after g o (All-In (λ (x : Exchange).
-        AllByRecursion (IsHandled layout) x.handled) g exchanges is.1 back.2)
+        AllByRecursion (IsGiven layout) x.handled) g exchanges is.1 back.2)
         (λ w lt. All-In (λ (x : Exchange). IsOrdered x.seen (part_of n w x.handled)) g
         exchanges
         (parts w lt).1 back.2) in_g in
@@ -351,8 +351,30 @@ module _ (layout : Layout) (n : ℕ) (some : 1 ≤ n) where
     across_exchanges exchanges seen.1 is.1 (λ w lt. (parts w lt).1),
   )
 
+  -- a number of the counter that a session tells is above what its earlier groups have seen
+  pub counted_exchanges : (exchanges : List Exchange)
+      → Pairwise (λ exchange next. AllByRecursion (λ seen. seen ≤ next.seen)
+      (seen_in (exchange_pairs exchange))) exchanges
+      → ((r : Exchange) → In r exchanges → (number : ℕ)
+      → In number (counter_numbers (exchange_pairs r)) → r.seen < number)
+      → Pairwise IsCountedAfter (map exchange_pairs exchanges)
+  counted_exchanges [] seen above = tt
+  counted_exchanges (r ∷ exchanges) seen above = (
+    In-All _ (map exchange_pairs exchanges) (λ q j.
+        let back = In-map-back exchange_pairs q exchanges j in
+        let g : Exchange = back.0 in
+        let saw = All-In (λ (next : Exchange). AllByRecursion (λ seen. seen ≤ next.seen)
+        (seen_in (exchange_pairs r))) g exchanges seen.0 back.2 in
+        In-All _ (seen_in (exchange_pairs r)) (λ t i. In-All _ (counter_numbers q) (λ number k.
+        let low : t ≤ g.seen = All-In (λ z. z ≤ g.seen) t (seen_in (exchange_pairs r)) saw i in
+        let high : g.seen < number = above g (inr back.2) number
+        (subst (λ ps. In number (counter_numbers ps)) (sym back.1) k) in
+        omega (arith, low, high)))),
+    counted_exchanges exchanges seen.1 (λ g i. above g (inr i)),
+  )
+
   pub within_exchanges : (exchanges : List Exchange)
-      → AllByRecursion (λ exchange. AllByRecursion (IsHandled layout) exchange.handled)
+      → AllByRecursion (λ exchange. AllByRecursion (IsGiven layout) exchange.handled)
       exchanges
       → ((w : ℕ) → w < n
       → AllByRecursion (λ exchange. IsOrdered exchange.seen (part_of n w exchange.handled))

@@ -6,19 +6,21 @@ use mathlib.Core.HLevel.{collapsible→set}
 use Rattle.std.specs.List.{AllByRecursion, AllByRecursion-prop}
 use Rattle.std.proofs.Props.{props}
 use Rattle.kv_base.specs.declared.request.Request.{Request}
-use Rattle.kv_base.specs.declared.request.Request.TheVariants.{Put, Get, Delete}
+use Rattle.kv_base.specs.declared.request.Request.TheVariants.{Put, Get, Delete, After}
 use Rattle.kv_base.specs.declared.reply.Reply.{Reply}
 use Rattle.kv_base.specs.declared.reply.Reply.TheVariants.{Stored, Found, Missing, Removed, Absent}
 use Rattle.kv_base.specs.declared.reply.Reply.TheVariants.{BadKey, TooLarge, Full, NoMemory}
 use Rattle.kv_base.specs.declared.reply.Reply.TheVariants.{DiskFault, Unsure, Closed, StampsSpent}
-use Rattle.kv_base.specs.declared.reply.Reply.TheVariants.{Malformed}
+use Rattle.kv_base.specs.declared.reply.Reply.TheVariants.{Malformed, Noted, Ahead}
 use Rattle.kv_model.specs.History.{Write, value_at}
 use Rattle.kv_model.specs.Items.{SameValue}
 use Rattle.kv_model.specs.Pairwise.{Pairwise}
 use Rattle.kv_model.specs.Layout.{Layout}
-use Rattle.kv_model.specs.Pairs.{Pair, writes, stamps, stamp_of}
+use Rattle.kv_model.specs.Pairs.{Pair, writes, stamps, stamp_of, seen_in, counter_numbers, pairs_in}
 use Rattle.kv_model.specs.Agreement.{AgreesWithMap, IsAnswer, IsMapAnswer, IsRead, refusal_of}
-use Rattle.kv_model.specs.Order.{RespectsOrder, IsAfter, Rises, RisesForKey}
+use Rattle.kv_model.specs.Agreement.{IsCounterAnswer}
+use Rattle.kv_model.specs.Order.{RespectsOrder, IsAfter, Rises, RisesForKey, TellsCounter}
+use Rattle.kv_model.specs.Order.{IsCountedAfter}
 use Rattle.kv_stamps.specs.declared.view.Range.{Range}
 use Rattle.kv_disk.specs.declared.disk.Disk as disks
 use Rattle.kv_parties.specs.Setting.{Setting, owned_pairs, owned_writes}
@@ -42,6 +44,8 @@ code (Unsure t) = (10, (t, []))
 code Closed = (11, (0, []))
 code (StampsSpent n) = (12, (n, []))
 code (Malformed o) = (13, (o, []))
+code Noted = (14, (0, []))
+code (Ahead n) = (15, (n, []))
 
 abbrev decode : ℕ × (ℕ × List ℕ) → Reply
 decode x =
@@ -50,7 +54,8 @@ decode x =
     (cond (nat_eq x.0 4) (Absent x.1.0) (cond (nat_eq x.0 5) BadKey (cond (nat_eq x.0 6) TooLarge
     (cond (nat_eq x.0 7) (Full x.1.0) (cond (nat_eq x.0 8) NoMemory (cond (nat_eq x.0 9) DiskFault
     (cond (nat_eq x.0 10) (Unsure x.1.0) (cond (nat_eq x.0 11) Closed
-    (cond (nat_eq x.0 12) (StampsSpent x.1.0) (Malformed x.1.0)))))))))))))
+    (cond (nat_eq x.0 12) (StampsSpent x.1.0) (cond (nat_eq x.0 13) (Malformed x.1.0)
+    (cond (nat_eq x.0 14) Noted (Ahead x.1.0)))))))))))))))
 
 back : (r : Reply) → decode (code r) ≡ r
 back (Stored t) = refl
@@ -67,6 +72,8 @@ back (Unsure t) = refl
 back Closed = refl
 back (StampsSpent n) = refl
 back (Malformed o) = refl
+back Noted = refl
+back (Ahead n) = refl
 
 code-set : IsSet (ℕ × (ℕ × List ℕ))
 code-set = hlevel props
@@ -88,11 +95,17 @@ IsRead-prop : (told : Bool) (o : Option (List ℕ)) (value : List ℕ) → IsPro
 IsRead-prop told None value = hlevel props
 IsRead-prop told (Some kept) value = hlevel props
 
+counter_answer-prop : (stamp : ℕ) (reply : Reply) → IsProp (IsCounterAnswer stamp reply)
+counter_answer-prop stamp Noted = hlevel props
+counter_answer-prop stamp (Ahead n) = hlevel props
+counter_answer-prop stamp reply = hlevel props
+
 map_answer-prop : (told : Bool) (layout : Layout) (h : List Write) (request : Request)
     (reply : Reply) → IsProp (IsMapAnswer told layout h request reply)
 map_answer-prop told layout h (Get k) (Found t found) = IsRead-prop told (value_at h t k) found
 map_answer-prop told layout h (Put k v) (Full c) = hlevel props
 map_answer-prop told layout h (Delete k) (Removed t) = hlevel props
+map_answer-prop told layout h (After s) reply = counter_answer-prop s reply
 map_answer-prop told layout h request reply = hlevel props
 
 answer-prop : (told : Bool) (layout : Layout) (h : List Write) (request : Request) (reply : Reply)
@@ -140,12 +153,23 @@ order-prop : (groups : List (List Pair)) → IsProp (RespectsOrder groups)
 order-prop groups =
     let a : IsProp (Pairwise IsAfter groups) = Pairwise-prop IsAfter (λ g h.
     AllByRecursion-prop (λ stamp. AllByRecursion (λ other. stamp < other) (stamps h))
-    (λ x. AllByRecursion-prop (λ other. x < other) (λ y. hlevel props) (stamps h)) (stamps g))
+    (λ x. AllByRecursion-prop (λ other. x < other) (λ y. hlevel props) (stamps h)) (seen_in g))
     groups in
     let b : IsProp (AllByRecursion (λ group. Pairwise RisesForKey group) groups) =
     AllByRecursion-prop (λ (group : List Pair). Pairwise RisesForKey group)
     (λ g. Pairwise-prop RisesForKey (λ p q. let r : IsProp (Rises p q) = rises-prop p q in
     hlevel (props, r)) g) groups in
+    hlevel (props, a, b)
+
+counter-prop : (floor : ℕ) (groups : List (List Pair)) → IsProp (TellsCounter floor groups)
+counter-prop floor groups =
+    let numbers : List ℕ = counter_numbers (pairs_in groups) in
+    let a : IsProp (AllByRecursion (λ number. floor < number) numbers) =
+    AllByRecursion-prop (λ number. floor < number) (λ n. hlevel props) numbers in
+    let b : IsProp (Pairwise IsCountedAfter groups) = Pairwise-prop IsCountedAfter (λ g h.
+    AllByRecursion-prop (λ seen. AllByRecursion (λ number. seen < number) (counter_numbers h))
+    (λ x. AllByRecursion-prop (λ number. x < number) (λ y. hlevel props) (counter_numbers h))
+    (seen_in g)) groups in
     hlevel (props, a, b)
 
 causes-prop : (setting : Setting) (worker : ℕ) (before : List Write) (runs : List Range)
@@ -185,6 +209,7 @@ stands-prop d setting parties pairs = hlevel (
   props,
   agrees-prop,
   order-prop,
+  counter-prop,
   accounted-prop,
   causes-prop,
   same_value-prop,

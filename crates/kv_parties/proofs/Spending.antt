@@ -1,16 +1,18 @@
 -- A worker meets no stamps left only where all numbers were given.
 use Rattle.std.proofs.Common.{◌≡◌, ◌⊎◌, inl, inr, ⊎_elim, ℕ, zero, suc, ◌+◌, ◌-◌, ◌^◌, ◌<◌, ◌≤◌}
 use Rattle.std.proofs.Common.{List}
-use Rattle.std.proofs.Common.{[], ◌∷◌, ◌++◌, length, map, None, Some, Bool, true, false}
-use Rattle.std.proofs.Common.{refl, sym, ap, ◌∙◌, subst, arith, Contains}
+use Rattle.std.proofs.Common.{[], ◌∷◌, ◌++◌, length, map, Option, None, Some, Bool, true, false}
+use Rattle.std.proofs.Common.{refl, sym, ap, ◌∙◌, subst, arith, Contains, cond}
+use Rattle.std.specs.List.{filter}
 use Rattle.std.proofs.lemmas.Bool.Decides.{nat_tests}
-use Rattle.std.proofs.lemmas.List.Elements.{All-head}
+use Rattle.std.proofs.lemmas.List.Elements.{All-head, All-tail}
 use Rattle.std.proofs.lemmas.List.Sums.{sum_by-cons}
-use Rattle.std.specs.Prelude.{min, max, All}
+use Rattle.std.specs.Prelude.{min, max, All, is_some}
 use Rattle.kv_base.specs.declared.request.Request.{Request}
 use Rattle.kv_base.specs.declared.reply.Reply.{Reply}
 use Rattle.kv_disk.specs.declared.disk.Disk as disks
-use Rattle.kv_model.specs.Pairs.{Pair, pairs_in, stamps, stamp_of}
+use Rattle.kv_model.specs.Pairs.{Pair, pairs_in, stamps, noted_stamps, seen_in, stamp_of}
+use Rattle.kv_model.specs.Pairs.{noted_by, key_of}
 use Rattle.kv_stamps.specs.Ranges.{within, between, among}
 use Rattle.kv_stamps.specs.Rule.{times_in}
 use Rattle.kv_stamps.specs.Seats.{first_spent}
@@ -19,19 +21,23 @@ use Rattle.kv_stamps.specs.declared.view.View.{View}
 use Rattle.kv_parties.specs.Begun.{IsBefore}
 use Rattle.kv_parties.specs.Groups.{Asked}
 use Rattle.kv_parties.specs.Joined.{Parties, AllKeep, NonePassed, NoneWaits, all_answered, all_pairs}
+use Rattle.kv_parties.specs.Joined.{all_noted}
 use Rattle.kv_parties.specs.Laws.{CountsAll}
 use Rattle.kv_parties.specs.Messages.{groups_in}
 use Rattle.kv_parties.specs.Rows.{sum_below}
 use Rattle.kv_parties.specs.Sessions.{Exchange, exchange_pairs, part_of, asked_by, all_asked}
 use Rattle.kv_parties.specs.Sessions.{greatest, seen_behind, HaveSeen, AsksGroups, IsPending}
 use Rattle.kv_parties.specs.Sessions.{message_of, asked_of}
-use Rattle.kv_parties.specs.Setting.{Setting}
-use Rattle.kv_parties.specs.Stamps.{size_of, IsForGroup, IsMet}
-use Rattle.kv_parties.proofs.Agreeing.{weigh, stamp-In}
+use Rattle.kv_parties.specs.Setting.{Setting, IsOwned}
+use Rattle.kv_parties.specs.Stamps.{size_of, IsForGroup, IsForExchange, IsMet}
+use Rattle.kv_parties.proofs.Agreeing.{weigh, weigh-le, owned-keyed, stamp-In}
 use Rattle.kv_parties.proofs.Causing.{Contains-In}
 use Rattle.kv_parties.proofs.Joining.{session_fits, sessions_fit, all_many, all_few, of_own}
+use Rattle.kv_parties.proofs.Coming.{greatest-from, greatest-above}
 use Rattle.kv_parties.proofs.Histories.{from_some}
-use Rattle.kv_parties.proofs.Lists.{In, count, In-left, In-right, In-append, In-flat_map-back}
+use Rattle.kv_parties.proofs.Lists.{In, All-In, count, In-left, In-right, In-append}
+use Rattle.kv_parties.proofs.Lists.{In-flat_map-back}
+use Rattle.kv_parties.proofs.Lists.{In-filter_map, In-row}
 use Rattle.kv_parties.proofs.Lists.{In-filter_map-back, count-In, sum_below-le, sum_below-same}
 use Rattle.kv_parties.proofs.Lists.{sum_below-add, sum_below-zero, sum_below-swap, sum_below-at}
 use Rattle.kv_parties.proofs.Meeting.{rings_of, courses_of, ranges_of, rings_keep, same_history}
@@ -98,10 +104,10 @@ greatest-origin n (x ∷ xs) = ⊎_elim
     (λ (i : In (greatest (max n x) xs) xs). inr (inr i))
     (greatest-origin (max n x) xs)
 
--- the number is this one, or a stamp of the exchanges
+-- the number is this one, or was seen by the exchanges
 abbrev IsFrom : ℕ → List Exchange → ℕ → Type 0
 IsFrom seen exchanges number = (number ≡ seen)
-    ⊎ In number (stamps (pairs_in (map exchange_pairs exchanges)))
+    ⊎ In number (seen_in (pairs_in (map exchange_pairs exchanges)))
 
 In-stamps-left : (t : ℕ) (ps qs : List Pair) → In t (stamps ps) → In t (stamps (ps ++ qs))
 In-stamps-left t ps qs i =
@@ -113,25 +119,55 @@ In-stamps-right t ps qs i =
     let back = In-filter_map-back (λ (p : Pair). stamp_of p.reply) t qs i in
     stamp-In t back.0 (ps ++ qs) back.1 (In-right back.0 ps qs back.2)
 
--- what comes from the stamps behind an exchange comes from those with it
+In-noted-left : (t : ℕ) (ps qs : List Pair) → In t (noted_stamps ps)
+    → In t (noted_stamps (ps ++ qs))
+In-noted-left t ps qs i =
+    let f : Pair → Option ℕ = λ p. noted_by p.request p.reply in
+    let back = In-filter_map-back f t ps i in
+    In-filter_map f back.0 t (ps ++ qs) back.1 (In-left back.0 ps qs back.2)
+
+In-noted-right : (t : ℕ) (ps qs : List Pair) → In t (noted_stamps qs)
+    → In t (noted_stamps (ps ++ qs))
+In-noted-right t ps qs i =
+    let f : Pair → Option ℕ = λ p. noted_by p.request p.reply in
+    let back = In-filter_map-back f t qs i in
+    In-filter_map f back.0 t (ps ++ qs) back.1 (In-right back.0 ps qs back.2)
+
+In-seen-left : (t : ℕ) (ps qs : List Pair) → In t (seen_in ps) → In t (seen_in (ps ++ qs))
+In-seen-left t ps qs i = ⊎_elim
+    (λ (a : In t (stamps ps)). In-left t (stamps (ps ++ qs)) (noted_stamps (ps ++ qs))
+    (In-stamps-left t ps qs a))
+    (λ (b : In t (noted_stamps ps)). In-right t (stamps (ps ++ qs)) (noted_stamps (ps ++ qs))
+    (In-noted-left t ps qs b))
+    (In-append t (stamps ps) (noted_stamps ps) i)
+
+In-seen-right : (t : ℕ) (ps qs : List Pair) → In t (seen_in qs) → In t (seen_in (ps ++ qs))
+In-seen-right t ps qs i = ⊎_elim
+    (λ (a : In t (stamps qs)). In-left t (stamps (ps ++ qs)) (noted_stamps (ps ++ qs))
+    (In-stamps-right t ps qs a))
+    (λ (b : In t (noted_stamps qs)). In-right t (stamps (ps ++ qs)) (noted_stamps (ps ++ qs))
+    (In-noted-right t ps qs b))
+    (In-append t (stamps qs) (noted_stamps qs) i)
+
+-- what is seen behind an exchange is seen with it
 from-later : (seen number : ℕ) (x : Exchange) (exchanges : List Exchange)
-    → IsFrom (greatest seen (stamps (exchange_pairs x))) exchanges number
+    → IsFrom (greatest seen (seen_in (exchange_pairs x))) exchanges number
     → IsFrom seen (x ∷ exchanges) number
 from-later seen number x exchanges (inl e) = ⊎_elim
-    (λ (same : greatest seen (stamps (exchange_pairs x)) ≡ seen). inl (e ∙ same))
-    (λ (i : In (greatest seen (stamps (exchange_pairs x))) (stamps (exchange_pairs x))).
-    inr (In-stamps-left number (exchange_pairs x) (pairs_in (map exchange_pairs exchanges))
-    (subst (λ n. In n (stamps (exchange_pairs x))) (sym e) i)))
-    (greatest-origin seen (stamps (exchange_pairs x)))
+    (λ (same : greatest seen (seen_in (exchange_pairs x)) ≡ seen). inl (e ∙ same))
+    (λ (i : In (greatest seen (seen_in (exchange_pairs x))) (seen_in (exchange_pairs x))).
+    inr (In-seen-left number (exchange_pairs x) (pairs_in (map exchange_pairs exchanges))
+    (subst (λ n. In n (seen_in (exchange_pairs x))) (sym e) i)))
+    (greatest-origin seen (seen_in (exchange_pairs x)))
 from-later seen number x exchanges (inr i) =
-    inr (In-stamps-right number (exchange_pairs x) (pairs_in (map exchange_pairs exchanges)) i)
+    inr (In-seen-right number (exchange_pairs x) (pairs_in (map exchange_pairs exchanges)) i)
 
 seen_behind-from : (seen : ℕ) (exchanges : List Exchange)
     → IsFrom seen exchanges (seen_behind seen exchanges)
 seen_behind-from seen [] = inl refl
 seen_behind-from seen (x ∷ exchanges) =
-    from-later seen (seen_behind (greatest seen (stamps (exchange_pairs x))) exchanges) x exchanges
-    (seen_behind-from (greatest seen (stamps (exchange_pairs x))) exchanges)
+    from-later seen (seen_behind (greatest seen (seen_in (exchange_pairs x))) exchanges) x exchanges
+    (seen_behind-from (greatest seen (seen_in (exchange_pairs x))) exchanges)
 
 seen-from : (seen : ℕ) (exchanges : List Exchange) → HaveSeen seen exchanges → (y : Exchange)
     → In y exchanges → IsFrom seen exchanges y.seen
@@ -139,7 +175,7 @@ seen-from seen [] have y i = absurd i
 seen-from seen (x ∷ exchanges) have y (inl e) =
     inl (ap (λ (z : Exchange). z.seen) (sym e) ∙ have.0)
 seen-from seen (x ∷ exchanges) have y (inr i) = from-later seen y.seen x exchanges
-    (seen-from (greatest seen (stamps (exchange_pairs x))) exchanges have.1 y i)
+    (seen-from (greatest seen (seen_in (exchange_pairs x))) exchanges have.1 y i)
 
 asked_by-seen : (seen : ℕ) (part : List Pair) (asked : Asked) → In asked (asked_by seen part)
     → asked.seen ≡ seen
@@ -164,14 +200,14 @@ pending-seen setting seen requests asking coming true pending w lt asked i =
 pending-seen setting seen requests asking coming false pending w lt asked i =
     absurd (subst (In asked) (pending.asks w lt) i)
 
--- what a session had seen when it asked is 0 or a stamp of its groups
+-- what a session had seen when it asked is 0, or what it saw by its groups
 asked-from : (setting : Setting) (asked : ℕ → List Asked) (heard : ℕ → List (List Reply))
     (groups : List (List Pair)) (requests : List Request) (waiting : Bool)
     → AsksGroups setting asked heard groups requests waiting → (w : ℕ) → w < setting.workers
     → (message : Asked) → In message (asked w)
-    → (message.seen ≡ 0) ⊎ In message.seen (stamps (pairs_in groups))
+    → (message.seen ≡ 0) ⊎ In message.seen (seen_in (pairs_in groups))
 asked-from setting asked heard groups requests waiting keep w lt message i =
-    subst (λ gs. (message.seen ≡ 0) ⊎ In message.seen (stamps (pairs_in gs))) (sym keep.same)
+    subst (λ gs. (message.seen ≡ 0) ⊎ In message.seen (seen_in (pairs_in gs))) (sym keep.same)
     (⊎_elim
     (λ (a : In message (all_asked setting.workers w keep.exchanges)).
     let back = In-flat_map-back (λ (x : Exchange). asked_by x.seen
@@ -186,10 +222,19 @@ asked-from setting asked heard groups requests waiting keep w lt message i =
     (In-append message (all_asked setting.workers w keep.exchanges) (keep.asking w)
     (subst (In message) (keep.asks w lt) i)))
 
-no-ranges : (P : Range → Type 0) → ((r : Range) → P r → ⊥) → (ranges : List Range) → All P ranges
-    → ranges ≡ []
-no-ranges P none [] all = refl
-no-ranges P none (r ∷ ranges) all = absurd (none r (All-head P r ranges all))
+-- so is what it had seen before an exchange
+exchange-from : (setting : Setting) (asked : ℕ → List Asked) (heard : ℕ → List (List Reply))
+    (groups : List (List Pair)) (requests : List Request) (waiting : Bool)
+    (keep : AsksGroups setting asked heard groups requests waiting) (exchange : Exchange)
+    → In exchange keep.exchanges
+    → (exchange.seen ≡ 0) ⊎ In exchange.seen (seen_in (pairs_in groups))
+exchange-from setting asked heard groups requests waiting keep exchange i =
+    subst (λ gs. (exchange.seen ≡ 0) ⊎ In exchange.seen (seen_in (pairs_in gs))) (sym keep.same)
+    (seen-from 0 keep.exchanges keep.seen exchange i)
+
+-- a range that ends at or below the number hasn't got it
+within-past : (r : Range) (number : ℕ) → r.first + r.count ≤ number → within number r ≡ 0
+within-past r number past = grind (arith, nat_tests)
 
 between-one : (k start end : ℕ) → 1 ≤ between k start end → (start ≤ k) × (k < end)
 between-one k start end one = ⊎_elim
@@ -205,16 +250,41 @@ between-one k start end one = ⊎_elim
 between-most : (k start end : ℕ) → between k start end ≤ 1
 between-most k start end = grind (arith, nat_tests)
 
-between-start : (start end : ℕ) → between 0 (start + 1) end ≡ 0
-between-start start end = grind (arith, nat_tests)
+-- below the start there is none
+between-under : (k start end : ℕ) → k < start → between k start end ≡ 0
+between-under k start end low = grind (arith, nat_tests)
+
+-- with a higher start there are no more
+between-higher : (k start higher end : ℕ) → start ≤ higher
+    → between k higher end ≤ between k start end
+between-higher k start higher end le = grind (arith, nat_tests)
+
+-- 1 where the request is about a key
+abbrev keyed : Pair → ℕ
+keyed pair = cond (is_some (key_of pair.request)) 1 0
+
+weigh-keyed : (ps : List Pair)
+    → weigh keyed ps ≡ length (filter (λ pair. is_some (key_of pair.request)) ps)
+weigh-keyed [] = refl
+weigh-keyed (p ∷ ps) = elim (is_some (key_of p.request)) as (λ b. cond b 1 0 + weigh keyed ps
+    ≡ length (cond b (p ∷ filter (λ (q : Pair). is_some (key_of q.request)) ps)
+    (filter (λ (q : Pair). is_some (key_of q.request)) ps))) [
+      | true ↦ omega (arith, weigh-keyed ps)
+      | false ↦ omega (arith, weigh-keyed ps)
+    ]
 
 length-weigh : (ps : List Pair) → length ps ≡ weigh (λ p. 1) ps
 length-weigh [] = refl
 length-weigh (p ∷ ps) = omega (arith, length-weigh ps)
 
-passes : (limit next first count floor many : ℕ) → limit < first + count → first + count ≤ next
-    → next - (floor + 1) ≤ many → limit ≤ floor + many
-passes limit next first count floor many low high few = omega arith
+passes : (limit next first count most many : ℕ) → limit < first + count → first + count ≤ next
+    → next - (most + 1) ≤ many → limit ≤ most + many
+passes limit next first count most many low high few = omega arith
+
+-- the greatest is at least each of the others
+greatest-In : (floor : ℕ) (xs : List ℕ) (x : ℕ) → In x xs → x ≤ greatest floor xs
+greatest-In floor xs x i =
+    All-In (λ y. y ≤ greatest floor xs) x xs (greatest-above floor xs) i
 
 -- the pairs of each worker
 module _ {F D : Type 0} (d : disks.Ghosts D) (setting : Setting) (parties : Parties F D)
@@ -248,19 +318,29 @@ module _ {F D : Type 0} (d : disks.Ghosts D) (setting : Setting) (parties : Part
     length-weigh (all_answered setting parties),
   )
 
-  -- where no session waits, workers answered no more requests than sessions did
-  pub answered_few : NoneWaits setting parties
-      → length (all_answered setting parties) ≤ length (all_pairs setting parties)
+  -- where no session waits, workers answered no more requests than sessions did about keys
+  pub answered_few : NoneWaits setting parties → length (all_answered setting parties)
+      ≤ length (filter (λ pair. is_some (key_of pair.request)) (all_pairs setting parties))
   answered_few quiet = omega (
     arith,
     length-weigh (all_answered setting parties),
     all_few setting parties.before (rings_of parties) (ranges_of parties) (courses_of parties)
         (rings_keep d setting parties keep passed) base (λ p. 1),
+    sum_below-le setting.workers (λ w. weigh (λ p. 1) (ours w)) (λ w. weigh keyed (ours w))
+        (λ w lt. weigh-le (λ p. 1) keyed (ours w) (λ p i. owned-one w p
+        (All-In (λ (q : Pair). IsOwned setting.workers w q.request) p (ours w)
+        ((owned d setting parties base keep passed).owned w lt) i))),
     (sessions_fit setting parties.before (rings_of parties) (ranges_of parties)
         (courses_of parties) (rings_keep d setting parties keep passed) base
-        (all_quiet d setting parties keep passed quiet)).holds (λ p. 1),
-    length-weigh (all_pairs setting parties),
+        (all_quiet d setting parties keep passed quiet)).holds keyed,
+    weigh-keyed (all_pairs setting parties),
   )
+    where
+      owned-one : (w : ℕ) (p : Pair) → IsOwned setting.workers w p.request → 1 ≤ keyed p
+      owned-one w p is =
+          let k = owned-keyed setting.workers w p.request is in
+          let one : keyed p ≡ 1 = ap (λ (o : Option (List ℕ)). cond (is_some o) 1 0) k.1 in
+          omega (arith, one)
 
 module _ {F D : Type 0} (d : disks.Ghosts D) (setting : Setting) (parties : Parties F D)
     (base : IsBefore setting parties.before) (keep : AllKeep d setting parties)
@@ -292,10 +372,14 @@ module _ {F D : Type 0} (d : disks.Ghosts D) (setting : Setting) (parties : Part
       (session_fits setting parties.before (rings_of parties) (ranges_of parties)
       (courses_of parties) (rings_keep d setting parties keep passed) base s lt back.0 back.2)
 
+  -- what a session's seat has of a number
+  abbrev looked : ℕ → ℕ → ℕ
+  looked k s = times_in k (parties.views s)
+
   -- all numbers that were drawn, and all that were passed over or met, are those of the counter
   parts : (k : ℕ) → sum_below setting.workers (λ w. among k (seen_by w).drawn)
       + sum_below setting.workers (λ w. among k (seen_by w).gaps + among k (seen_by w).spent)
-      ≡ between k (setting.floor + 1) next
+      + sum_below setting.sessions (looked k) ≡ between k (setting.floor + 1) next
   parts k = omega (
     arith,
     sum_below-add setting.workers (λ w. among k (seen_by w).drawn)
@@ -303,31 +387,51 @@ module _ {F D : Type 0} (d : disks.Ghosts D) (setting : Setting) (parties : Part
     counts k,
   )
 
-  -- no number in a gap is the last one that a session had seen
-  never : (w s : ℕ) (message : Asked) → w < setting.workers → s < setting.sessions
-      → In message (groups_in (parties.asks_sent s w)) → 1 ≤ among message.seen (seen_by w).gaps → ⊥
-  never w s message less lt i some =
-      let at_w = sum_below-at setting.workers w
-      (λ w. among message.seen (seen_by w).gaps + among message.seen (seen_by w).spent) less in
-      let all = parts message.seen in
-      ⊎_elim
-      (λ (zero_is : message.seen ≡ 0).
-      let none : between message.seen (setting.floor + 1) next ≡ 0 =
-      ap (λ k. between k (setting.floor + 1) next) zero_is ∙ between-start setting.floor next in
-      absurd (omega (arith, at_w, all, none, some)))
-      (λ (b : In message.seen (stamps (pairs_in (parties.groups s)))).
-      let by = drawn-by s lt message.seen b in
-      absurd (omega (
-        arith,
-        at_w,
-        all,
-        some,
-        by.2,
-        sum_below-at setting.workers by.0 (λ v. among message.seen (seen_by v).drawn) by.1,
-        between-most message.seen (setting.floor + 1) next,
-      )))
-      (asked-from setting (λ w. groups_in (parties.asks_sent s w)) _ (parties.groups s)
-      (parties.requests s) (parties.waiting s) (keep.sessions s lt).asks w less message i)
+  -- the greatest of the floor and the stamps that were noted
+  abbrev most : ℕ
+  most = greatest setting.floor (all_noted setting parties)
+
+  -- a number that is in no range, and that a session has seen or that is 0, is no more than that
+  low-seen : (s number : ℕ) → s < setting.sessions
+      → (number ≡ 0) ⊎ In number (seen_in (pairs_in (parties.groups s)))
+      → ((v : ℕ) → v < setting.workers → 1 ≤ among number (seen_by v).drawn → ⊥) → number ≤ most
+  low-seen s number lt (inl zero_is) none = omega (arith, zero_is)
+  low-seen s number lt (inr i) none = ⊎_elim
+      (λ (a : In number (stamps (pairs_in (parties.groups s)))).
+      let by = drawn-by s lt number a in absurd (none by.0 by.1 by.2))
+      (λ (b : In number (noted_stamps (pairs_in (parties.groups s)))).
+      greatest-In setting.floor (all_noted setting parties) number
+      (In-row number setting.sessions s (λ s. noted_stamps (pairs_in (parties.groups s))) lt b))
+      (In-append number (stamps (pairs_in (parties.groups s)))
+      (noted_stamps (pairs_in (parties.groups s))) i)
+
+  -- a number in a worker's gap is in no range
+  apart-worker : (w number : ℕ) → w < setting.workers → 1 ≤ among number (seen_by w).gaps
+      → (v : ℕ) → v < setting.workers → 1 ≤ among number (seen_by v).drawn → ⊥
+  apart-worker w number less some v lt one = absurd (omega (
+    arith,
+    parts number,
+    some,
+    one,
+    sum_below-at setting.workers w
+        (λ w. among number (seen_by w).gaps + among number (seen_by w).spent) less,
+    sum_below-at setting.workers v (λ v. among number (seen_by v).drawn) lt,
+    between-most number (setting.floor + 1) next,
+  ))
+
+  -- nor is one in a session's
+  apart-session : (s number : ℕ) → s < setting.sessions
+      → 1 ≤ among number (parties.views s).gaps
+      → (v : ℕ) → v < setting.workers → 1 ≤ among number (seen_by v).drawn → ⊥
+  apart-session s number less some v lt one = absurd (omega (
+    arith,
+    parts number,
+    some,
+    one,
+    sum_below-at setting.sessions s (looked number) less,
+    sum_below-at setting.workers v (λ v. among number (seen_by v).drawn) lt,
+    between-most number (setting.floor + 1) next,
+  ))
 
   -- what a worker took its session sent
   was_sent : (w s : ℕ) (less : w < setting.workers) → s < setting.sessions → (message : Asked)
@@ -341,58 +445,134 @@ module _ {F D : Type 0} (d : disks.Ghosts D) (setting : Setting) (parties : Part
       ∙ groups-asking (parties.asks_received w s))
       (Contains-In message (groups_in ((keep.workers w less).taken s)) has)))
 
-  no_gaps : (w : ℕ) → w < setting.workers → (seen_by w).gaps ≡ []
-  no_gaps w less =
-      (elim (seen_by w).gaps as (λ gaps. (seen_by w).gaps ≡ gaps
+  -- no number above is in a worker's gap
+  worker_gaps : (w : ℕ) (less : w < setting.workers) (gaps : List Range)
+      → ((k : ℕ) → among k gaps ≤ among k (seen_by w).gaps)
       → All (IsForGroup setting (λ s. groups_in ((keep.workers w less).taken s))) gaps
-      → gaps ≡ []) [
-        | [] ↦ λ e all. refl
-        | gap ∷ gaps ↦ λ e all.
-            let is = All-head (IsForGroup setting
-            (λ s. groups_in ((keep.workers w less).taken s))) gap gaps all in
-            let some : 1 ≤ among is.asked.seen (seen_by w).gaps = omega (
-              arith,
-              ap (among is.asked.seen) e,
-              sum_by-cons (within is.asked.seen) gap gaps,
-              last-within gap is.asked.seen is.some is.last,
-            ) in
-            absurd (never w is.session is.asked less is.known
-            (was_sent w is.session less is.known is.asked is.there) some)
-      ]) refl (keep.workers w less).stamps.gaps
+      → (k : ℕ) → most < k → among k gaps ≡ 0
+  worker_gaps w less [] part all k far = refl
+  worker_gaps w less (gap ∷ gaps) part all k far =
+      let taken : ℕ → List Asked = λ s. groups_in ((keep.workers w less).taken s) in
+      let is = All-head (IsForGroup setting taken) gap gaps all in
+      let s : ℕ = is.session in
+      let last : ℕ = is.asked.seen in
+      let there : 1 ≤ among last (seen_by w).gaps = omega (
+        arith,
+        part last,
+        sum_by-cons (within last) gap gaps,
+        last-within gap last is.some is.last,
+      ) in
+      let low : last ≤ most = low-seen s last is.known
+      (asked-from setting (λ w. groups_in (parties.asks_sent s w)) _ (parties.groups s)
+      (parties.requests s) (parties.waiting s) (keep.sessions s is.known).asks w less is.asked
+      (was_sent w s less is.known is.asked is.there))
+      (apart-worker w last less there) in
+      omega (
+        arith,
+        sum_by-cons (within k) gap gaps,
+        within-past gap k (omega (arith, is.last, low, far)),
+        worker_gaps w less gaps
+            (λ n. omega (arith, part n, sum_by-cons (within n) gap gaps))
+            (All-tail (IsForGroup setting taken) gap gaps all) k far,
+      )
 
-  -- a worker's numbers are those that it drew and met
-  sizes : (w : ℕ) → w < setting.workers → sum_below next (λ k. times_in k (seen_by w))
-      ≤ size_of (seen_by w).drawn + size_of (seen_by w).spent
-  sizes w lt = omega (
+  -- nor in a session's
+  session_gaps : (s : ℕ) (lt : s < setting.sessions) (gaps : List Range)
+      → ((k : ℕ) → among k gaps ≤ among k (parties.views s).gaps)
+      → All (IsForExchange (keep.sessions s lt).asks.exchanges) gaps
+      → (k : ℕ) → most < k → among k gaps ≡ 0
+  session_gaps s lt [] part all k far = refl
+  session_gaps s lt (gap ∷ gaps) part all k far =
+      let exchanges : List Exchange = (keep.sessions s lt).asks.exchanges in
+      let is = All-head (IsForExchange exchanges) gap gaps all in
+      let last : ℕ = is.exchange.seen in
+      let there : 1 ≤ among last (parties.views s).gaps = omega (
+        arith,
+        part last,
+        sum_by-cons (within last) gap gaps,
+        last-within gap last is.some is.last,
+      ) in
+      let low : last ≤ most = low-seen s last lt
+      (exchange-from setting (λ w. groups_in (parties.asks_sent s w)) _ (parties.groups s)
+      (parties.requests s) (parties.waiting s) (keep.sessions s lt).asks is.exchange
+      (Contains-In is.exchange exchanges is.there))
+      (apart-session s last lt there) in
+      omega (
+        arith,
+        sum_by-cons (within k) gap gaps,
+        within-past gap k (omega (arith, is.last, low, far)),
+        session_gaps s lt gaps
+            (λ n. omega (arith, part n, sum_by-cons (within n) gap gaps))
+            (All-tail (IsForExchange exchanges) gap gaps all) k far,
+      )
+
+  -- so a number above is one that a worker drew or met
+  worker_has : (w k : ℕ) → w < setting.workers → most < k → times_in k (seen_by w)
+      ≡ among k (seen_by w).drawn + among k (seen_by w).spent
+  worker_has w k lt far = omega (
     arith,
-    sum_below-same next (λ k. times_in k (seen_by w))
-        (λ k. among k (seen_by w).drawn + among k (seen_by w).spent)
-        (λ k low. omega (arith, ap (among k) (no_gaps w lt))),
-    sum_below-add next (λ k. among k (seen_by w).drawn) (λ k. among k (seen_by w).spent),
-    among-below next (seen_by w).drawn,
-    among-below next (seen_by w).spent,
+    worker_gaps w lt (seen_by w).gaps (λ n. omega arith) (keep.workers w lt).stamps.gaps k far,
   )
 
-  -- so the counter gave no more numbers than there are answered requests
-  numbers_all : next - (setting.floor + 1) ≤ length (all_answered setting parties)
+  session_has : (s k : ℕ) → s < setting.sessions → most < k → looked k s ≡ 0
+  session_has s k lt far =
+      let looks = (keep.sessions s lt).looks in
+      omega (
+        arith,
+        ap (among k) looks.drawn,
+        ap (among k) looks.spent,
+        session_gaps s lt (parties.views s).gaps (λ n. omega arith) looks.gaps k far,
+      )
+
+  floor-most : setting.floor ≤ most
+  floor-most = greatest-from setting.floor (all_noted setting parties)
+
+  -- each number above is one that a worker drew or met
+  above_has : (k : ℕ) → between k (most + 1) next ≤ sum_below setting.workers
+      (λ w. among k (seen_by w).drawn + among k (seen_by w).spent)
+  above_has k = ⊎_elim
+      (λ (far : most < k). omega (
+        arith,
+        between-higher k (setting.floor + 1) (most + 1) next (omega (arith, floor-most)),
+        counts k,
+        sum_below-same setting.workers (λ w. times_in k (seen_by w))
+            (λ w. among k (seen_by w).drawn + among k (seen_by w).spent)
+            (λ w lt. worker_has w k lt far),
+        sum_below-same setting.sessions (looked k) (λ s. 0) (λ s lt. session_has s k lt far),
+        sum_below-zero setting.sessions,
+      ))
+      (λ (near : k ≤ most).
+      let none : between k (most + 1) next ≡ 0 = between-under k (most + 1) next (omega (arith, near))
+      in omega (arith, none))
+      (let e : (most < k) ⊎ (k ≤ most) = grind arith in e)
+
+  -- so the counter gave no more of them than there are answered requests
+  numbers_all : next - (most + 1) ≤ length (all_answered setting parties)
   numbers_all = omega (
     arith,
-    between-below next (setting.floor + 1) next,
-    sum_below-same next (λ k. between k (setting.floor + 1) next)
-        (λ k. sum_below setting.workers (λ w. times_in k (seen_by w))) (λ k lt. sym (counts k)),
-    sum_below-swap next setting.workers (λ k w. times_in k (seen_by w)),
-    sum_below-le setting.workers (λ w. sum_below next (λ k. times_in k (seen_by w)))
-        (λ w. size_of (seen_by w).drawn + size_of (seen_by w).spent) sizes,
+    between-below next (most + 1) next,
+    sum_below-le next (λ k. between k (most + 1) next) (λ k. sum_below setting.workers
+        (λ w. among k (seen_by w).drawn + among k (seen_by w).spent)) (λ k lt. above_has k),
+    sum_below-swap next setting.workers
+        (λ k w. among k (seen_by w).drawn + among k (seen_by w).spent),
+    sum_below-le setting.workers
+        (λ w. sum_below next (λ k. among k (seen_by w).drawn + among k (seen_by w).spent))
+        (λ w. size_of (seen_by w).drawn + size_of (seen_by w).spent) (λ w lt. omega (
+          arith,
+          sum_below-add next (λ k. among k (seen_by w).drawn) (λ k. among k (seen_by w).spent),
+          among-below next (seen_by w).drawn,
+          among-below next (seen_by w).spent,
+        )),
     numbers_few d setting parties base keep passed,
   )
 
   pub spent_cause : (w number : ℕ) → w < setting.workers
       → first_spent (seen_by w).spent ≡ Some number
-      → (2 ^ 62 ≤ setting.floor + length (all_answered setting parties)) × (2 ^ 62 < number + 512)
+      → (2 ^ 62 ≤ most + length (all_answered setting parties)) × (2 ^ 62 < number + 512)
   spent_cause w number lt =
       (elim (seen_by w).spent as (λ runs. (seen_by w).spent ≡ runs → All IsMet runs
       → first_spent runs ≡ Some number
-      → (2 ^ 62 ≤ setting.floor + length (all_answered setting parties))
+      → (2 ^ 62 ≤ most + length (all_answered setting parties))
       × (2 ^ 62 < number + 512)) [
         | [] ↦ λ e all first. absurd (cc)
         | run ∷ runs ↦ λ e all first.
@@ -414,7 +594,7 @@ module _ {F D : Type 0} (d : disks.Ghosts D) (setting : Setting) (parties : Part
                   (λ w. among last (seen_by w).gaps + among last (seen_by w).spent) lt,
             )) in
             let reached : run.first + run.count ≤ next = omega (arith, inside.1, ends) in (
-              passes (2 ^ 62) next run.first run.count setting.floor
+              passes (2 ^ 62) next run.first run.count most
                   (length (all_answered setting parties)) met.1.0 reached numbers_all,
               far (2 ^ 62) run.first run.count number met.1.0 met.1.1 is,
             )

@@ -1,13 +1,15 @@
 -- What stands where all parties keep their promises.
-use Rattle.std.proofs.Common.{◌≡◌, ℕ, ◌<◌, List, [], ◌++◌, sym, ◌∙◌, subst}
+use Rattle.std.proofs.Common.{◌≡◌, ℕ, ◌<◌, ◌≤◌, ◌^◌, List, [], ◌++◌, sym, ◌∙◌, subst, arith}
+use Rattle.std.specs.Prelude.{min}
+use Rattle.kv_model.proofs.PairwiseLemmas.{All-map}
 use Rattle.std.proofs.Common.{inl, inr, ⊎_elim}
 use Rattle.std.proofs.Props.{props}
 use Rattle.kv_base.specs.Image.{Image}
 use Rattle.kv_disk.specs.declared.disk.Disk as disks
 use Rattle.kv_model.specs.Items.{SameValue}
-use Rattle.kv_model.specs.Pairs.{Pair, pairs_in, writes}
+use Rattle.kv_model.specs.Pairs.{Pair, pairs_in, counter_numbers, writes}
 use Rattle.kv_parties.specs.Begun.{IsBefore, all_before}
-use Rattle.kv_parties.specs.Causes.{KeepsCauses}
+use Rattle.kv_parties.specs.Causes.{KeepsCauses, IsLooked}
 use Rattle.kv_parties.specs.Promises.{KeepsMap}
 use Rattle.kv_parties.specs.Joined.{Parties, AllKeep, NonePassed, NoneWaits, Stands}
 use Rattle.kv_parties.specs.Joined.{all_answered, all_pairs, IsAccounted}
@@ -17,9 +19,9 @@ use Rattle.kv_parties.specs.Workers.{done_pairs}
 use Rattle.kv_parties.proofs.Agreeing.{Owns, Fits, agrees, value-same}
 use Rattle.kv_parties.proofs.Causing.{causes_of, In-Contains}
 use Rattle.kv_parties.proofs.Lists.{In, In-All}
-use Rattle.kv_parties.proofs.Owned.{IsHere}
+use Rattle.kv_parties.proofs.Owned.{IsHere, IsRefusal}
 use Rattle.kv_parties.proofs.Joining.{own, of_own, owns, all_fit, ordered_groups, sessions_fit}
-use Rattle.kv_parties.proofs.Joining.{session_fits}
+use Rattle.kv_parties.proofs.Joining.{session_fits, counted_groups}
 use Rattle.kv_parties.proofs.Meeting.{rings_of, courses_of, ranges_of, rings_keep, all_quiet}
 use Rattle.kv_parties.proofs.Meeting.{same_history}
 use Rattle.kv_parties.proofs.Recovering.{AreOwnAlso, all_own_also, recovers}
@@ -69,11 +71,21 @@ module _ {F D : Type 0} (d : disks.Ghosts D) (setting : Setting) (parties : Part
     right = agrees setting parties.before base mine (ranges_of parties) owned pairs fits;
     ordered = ordered_groups setting parties.before (rings_of parties) (ranges_of parties)
         (courses_of parties) (rings_keep d setting parties keep passed) base;
+    counter = λ s lt. record {
+      floor_is = All-map (λ number. min (parties.views s).start (2 ^ 62) ≤ number)
+          (λ number. setting.floor < number) (counter_numbers (pairs_in (parties.groups s)))
+          (λ number least. omega (arith, least, keep.started s lt, keep.limit))
+          (keep.sessions s lt).looks.told;
+      across = counted_groups setting parties.before (rings_of parties) (ranges_of parties)
+          (courses_of parties) (rings_keep d setting parties keep passed) base s lt;
+    };
     accounted = λ s lt. In-All (IsAccounted setting pairs) (pairs_in (parties.groups s)) (λ p i.
         ⊎_elim
         (λ (a : (w : ℕ) × (w < setting.workers) × In p (mine w)).
         ∣ inl (In-Contains p pairs (fits.all a.0 p a.1 a.2)) ∣₁)
-        (λ (b : IsHere setting.layout p). ∣ inr b.own ∣₁)
+        (λ (b : IsHere setting.layout p). ⊎_elim
+        (λ (refused : IsRefusal setting.layout p). ∣ inr (inl refused.own) ∣₁)
+        (λ (looked : IsLooked p). ∣ inr (inr looked) ∣₁) b)
         (session_fits setting parties.before (rings_of parties) (ranges_of parties)
         (courses_of parties) (rings_keep d setting parties keep passed) base s lt p i));
     causes = λ w lt. causes_of setting parties.before base mine (ranges_of parties) owned pairs fits

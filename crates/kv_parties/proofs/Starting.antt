@@ -17,7 +17,8 @@ use Rattle.kv_parties.specs.Messages.{takes_message}
 use Rattle.kv_parties.specs.Promises.{WorkerData, KeepsMap, WorkerPromise, SessionPromise}
 use Rattle.kv_parties.specs.Recovered.{Recovers, LeavesPrefixes}
 use Rattle.kv_parties.specs.Setting.{Setting}
-use Rattle.kv_parties.specs.Stamps.{size_of, IsForGroup, IsMet, HasDrawnNone}
+use Rattle.kv_parties.specs.Stamps.{size_of, IsForGroup, IsForExchange, IsMet, HasDrawnNone}
+use Rattle.kv_stamps.specs.declared.view.View.{View}
 
 none-All : {X : Type 0} (P : X → Type 0) (xs : List X) → xs ≡ [] → All P xs
 none-All P xs e = subst (All P) (sym e) (λ i x lt. absurd (omega arith))
@@ -87,39 +88,46 @@ module _ {F D : Type 0} (d : disks.Ghosts D) (setting : Setting) (worker : ℕ) 
   }
 
 module _ {F : Type 0} (setting : Setting) (sent : ℕ → List (Ask F)) (received : ℕ → List (Answer F))
+    (view : View)
     (none : (worker : ℕ) → worker < setting.workers → (sent worker ≡ []) × (received worker ≡ []))
-  where
-    pub session_begins : SessionPromise setting sent received [] [] false
-    session_begins = record {
-      taken = λ worker lt. subst (λ messages. AllByRecursion (λ message.
-          takes_message setting.layout worker setting.workers message ≡ true) (all_asking messages))
-          (sym (none worker lt).0) tt;
-      heard = λ worker. [];
-      hears = λ worker lt. subst (λ came. Hears (all_asking (sent worker)) came [])
-          (sym (none worker lt).1) refl;
-      owed = λ worker lt. omega (
-        arith,
-        ap (λ messages. length (all_asking messages))
-            (none worker lt).0,
-      );
-      quiet = λ e worker lt. omega (
-        arith,
-        ap (λ messages. length (all_asking messages))
-            (none worker lt).0,
-      );
-      asks = record {
-        exchanges = [];
-        asking = λ worker. [];
-        coming = λ worker. [];
-        same = refl;
-        asks = λ worker lt. ap groups_in (none worker lt).0;
+    (fresh : HasDrawnNone view) where
+  pub session_begins : SessionPromise setting sent received [] [] false view
+  session_begins = record {
+    taken = λ worker lt. subst (λ messages. AllByRecursion (λ message.
+        takes_message setting.layout worker setting.workers message ≡ true) (all_asking messages))
+        (sym (none worker lt).0) tt;
+    heard = λ worker. [];
+    hears = λ worker lt. subst (λ came. Hears (all_asking (sent worker)) came [])
+        (sym (none worker lt).1) refl;
+    owed = λ worker lt. omega (
+      arith,
+      ap (λ messages. length (all_asking messages))
+          (none worker lt).0,
+    );
+    quiet = λ e worker lt. omega (
+      arith,
+      ap (λ messages. length (all_asking messages))
+          (none worker lt).0,
+    );
+    asks = record {
+      exchanges = [];
+      asking = λ worker. [];
+      coming = λ worker. [];
+      same = refl;
+      asks = λ worker lt. ap groups_in (none worker lt).0;
+      hears = λ worker lt. refl;
+      seen = tt;
+      handled = tt;
+      pending = record {
+        none = refl;
+        asks = λ worker lt. refl;
         hears = λ worker lt. refl;
-        seen = tt;
-        handled = tt;
-        pending = record {
-          none = refl;
-          asks = λ worker lt. refl;
-          hears = λ worker lt. refl;
-        };
       };
-    }
+    };
+    looks = record {
+      drawn = fresh.drawn;
+      spent = fresh.spent;
+      gaps = none-All (IsForExchange []) view.gaps fresh.gaps;
+      told = tt;
+    };
+  }

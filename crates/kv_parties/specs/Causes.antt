@@ -4,12 +4,14 @@ use Rattle.std.specs.Prelude.{Bool, true, false, ◌||◌, Some, IsTrue, Contain
 use Rattle.std.specs.Prelude.{count_by, if◌then◌else◌}
 use Rattle.std.specs.List.{AllByRecursion, list_any}
 use Rattle.kv_base.specs.Calls.{next_count}
+use Rattle.kv_base.specs.declared.request.Request.{Request}
+use Rattle.kv_base.specs.declared.request.Request.TheVariants.{Put, Get, Delete, Flush, After}
 use Rattle.kv_base.specs.declared.reply.Reply.{Reply}
 use Rattle.kv_base.specs.declared.reply.Reply.TheVariants.{Stored, Found, Missing, Removed, Absent}
 use Rattle.kv_base.specs.declared.reply.Reply.TheVariants.{BadKey, TooLarge, Full, NoMemory}
 use Rattle.kv_base.specs.declared.reply.Reply.TheVariants.{DiskFault, Unsure, Closed, StampsSpent}
-use Rattle.kv_base.specs.declared.reply.Reply.TheVariants.{Malformed}
-use Rattle.kv_model.specs.Agreement.{refusal_of}
+use Rattle.kv_base.specs.declared.reply.Reply.TheVariants.{Malformed, Noted, Ahead}
+use Rattle.kv_model.specs.Agreement.{refusal_of, IsCounterAnswer}
 use Rattle.kv_model.specs.Batch.{class_written}
 use Rattle.kv_model.specs.History.{Write}
 use Rattle.kv_model.specs.Layout.{Layout, is_small}
@@ -35,6 +37,8 @@ is_unsure (Unsure stamp) = true
 is_unsure Closed = false
 is_unsure (StampsSpent number) = false
 is_unsure (Malformed offset) = false
+is_unsure Noted = false
+is_unsure (Ahead number) = false
 
 -- whether the reply tells of a fault of the disk
 abbrev pub is_fault : Reply → Bool
@@ -52,6 +56,8 @@ is_fault (Unsure stamp) = true
 is_fault Closed = false
 is_fault (StampsSpent number) = false
 is_fault (Malformed offset) = false
+is_fault Noted = false
+is_fault (Ahead number) = false
 
 -- whether a reply says that a write may be on disk or not
 abbrev pub any_unsure : List Pair → Bool
@@ -74,6 +80,18 @@ count_faults pairs = count_by (λ pair. is_fault pair.reply) pairs
 abbrev pub IsOwn : Layout → Pair → Type 0
 IsOwn layout pair = MatchOption (refusal_of layout pair.request) (pair.reply ≡ NoMemory)
     (λ refusal. pair.reply ≡ refusal)
+
+-- the reply is the counter's, to an After
+abbrev pub IsCounterReply : Request → Reply → Type 0
+IsCounterReply (Put key value) reply = ⊥
+IsCounterReply (Get key) reply = ⊥
+IsCounterReply (Delete key) reply = ⊥
+IsCounterReply Flush reply = ⊥
+IsCounterReply (After stamp) reply = IsCounterAnswer stamp reply
+
+-- a session answers the request itself, by the counter
+abbrev pub IsLooked : Pair → Type 0
+IsLooked pair = IsCounterReply pair.request pair.reply
 
 -- the count of a disk's faults behind these batches: one more for each that tells of one
 abbrev pub faults_behind : List (List Pair) → ℕ → ℕ

@@ -13,13 +13,15 @@ use Rattle.kv_ring.specs.declared.message.Answer.{Answer}
 use Rattle.kv_stamps.specs.Ranges.{between}
 use Rattle.kv_stamps.specs.Rule.{times_in}
 use Rattle.kv_stamps.specs.Seats.{first_spent}
+use Rattle.kv_stamps.specs.declared.view.View.{View}
 use Rattle.kv_parties.specs.Begun.{IsBefore, all_before}
 use Rattle.kv_parties.specs.Joined.{Parties, AllKeep, NonePassed, NoneWaits, Stands}
-use Rattle.kv_parties.specs.Joined.{all_answered, all_pairs}
+use Rattle.kv_parties.specs.Joined.{all_answered, all_pairs, all_noted}
 use Rattle.kv_parties.specs.Messages.{all_asking, takes_message}
 use Rattle.kv_parties.specs.Promises.{WorkerData, KeepsMap, WorkerPromise, SessionPromise}
 use Rattle.kv_parties.specs.Recovered.{Recovers}
 use Rattle.kv_parties.specs.Rows.{sum_below}
+use Rattle.kv_parties.specs.Sessions.{greatest}
 use Rattle.kv_parties.specs.Setting.{Setting}
 use Rattle.kv_parties.specs.Stamps.{size_of, HasDrawnNone}
 use Rattle.kv_parties.specs.Workers.{done_pairs}
@@ -65,10 +67,11 @@ RecoveryJoins F D d = (setting : Setting) (earlier parties : Parties F D)
     (all_answered setting earlier) (all_answered setting parties)
 
 -- each number from the first stamp up to the counter's next one is just once in a range, a gap or a
--- run of a worker's seat, and no other number is
+-- run of a party's seat, and no other number is
 abbrev pub CountsAll : {F D : Type 0} → Setting → Parties F D → ℕ → Type 0
 CountsAll setting parties next = (number : ℕ)
     → sum_below setting.workers (λ worker. times_in number (parties.workers worker).view)
+    + sum_below setting.sessions (λ session. times_in number (parties.views session))
     ≡ between number (setting.floor + 1) next
 
 -- all workers together drew and met no more numbers than there are answered requests
@@ -78,14 +81,16 @@ NumbersAreFew F D d = (setting : Setting) (parties : Parties F D)
     → sum_below setting.workers (λ worker. size_of (parties.workers worker).view.drawn
     + size_of (parties.workers worker).view.spent) ≤ length (all_answered setting parties)
 
--- where all numbers that the counter gave are the workers', one met no stamps left only where the
--- floor and the number of answered requests pass the last stamp
+-- where all numbers that the counter gave are the parties', one met no stamps left only where the
+-- greatest of the floor and the stamps that were noted, and the number of answered requests, pass
+-- the last stamp
 abbrev pub SpentHasCause : (F D : Type 0) → disks.Ghosts D → Type 0
 SpentHasCause F D d = (setting : Setting) (parties : Parties F D) (next : ℕ)
     → IsBefore setting parties.before → AllKeep d setting parties → NonePassed setting parties
     → CountsAll setting parties next → (worker number : ℕ) → worker < setting.workers
     → first_spent (parties.workers worker).view.spent ≡ Some number
-    → (2 ^ 62 ≤ setting.floor + length (all_answered setting parties)) × (2 ^ 62 < number + 512)
+    → (2 ^ 62 ≤ greatest setting.floor (all_noted setting parties)
+    + length (all_answered setting parties)) × (2 ^ 62 < number + 512)
 
 -- a worker that received and sent nothing, drew no stamps and has its disk as it was keeps its
 -- promise from the writes on that its store has and its disk leaves
@@ -99,11 +104,12 @@ WorkerBegins F D d = (setting : Setting) (worker : ℕ) (before : List Write)
     → RecoversPrefix setting.layout before before image worker setting.workers)
     → WorkerPromise d setting worker before received sent own
 
--- a session that sent and received nothing keeps its promise
+-- a session that sent and received nothing and drew no stamps keeps its promise
 abbrev pub SessionBegins : Type 0 → Type 0
 SessionBegins F = (setting : Setting) (sent : ℕ → List (Ask F)) (received : ℕ → List (Answer F))
+    (view : View)
     → ((worker : ℕ) → worker < setting.workers → (sent worker ≡ []) × (received worker ≡ []))
-    → SessionPromise setting sent received [] [] false
+    → HasDrawnNone view → SessionPromise setting sent received [] [] false view
 
 -- what stands is one fact, however it is shown
 abbrev pub StandsOnce : (F D : Type 0) → disks.Ghosts D → Type 0

@@ -1,5 +1,6 @@
 -- What each party promises of its own data alone: a worker of its ring ends, its seat of the
--- counter, its store and its disk, a session of its ring ends and the groups that it answered.
+-- counter, its store and its disk, a session of its ring ends, its seat and the groups that it
+-- answered.
 use Rattle.std.specs.Prelude.{◌≡◌, ◌≤◌, ◌<◌, ◌+◌, ℕ, List, ◌++◌, length, Bool, false, true}
 use Rattle.std.specs.List.{AllByRecursion}
 use Rattle.kv_base.specs.declared.request.Request.{Request}
@@ -18,7 +19,7 @@ use Rattle.kv_parties.specs.Messages.{takes_message}
 use Rattle.kv_parties.specs.Recovered.{LeavesPrefixes}
 use Rattle.kv_parties.specs.Sessions.{AsksGroups}
 use Rattle.kv_parties.specs.Setting.{Setting}
-use Rattle.kv_parties.specs.Stamps.{KeepsStamps}
+use Rattle.kv_parties.specs.Stamps.{KeepsStamps, KeepsLooks}
 use Rattle.kv_parties.specs.Workers.{AnswersGroups, done_pairs}
 
 -- what a worker has beside its ring ends: what its seat knows of the counter, its disk as it was
@@ -61,11 +62,11 @@ pub record WorkerPromise {D F : Type 0} (d : disks.Ghosts D) (setting : Setting)
 
 -- a session's promise, by what it sent to each worker, where a message that waits to be sent counts
 -- as sent, and received from it: each message is one that the worker takes; it heard each answer to
--- a message, is owed one at most, and none unless it waits; and it asked and answered these groups,
--- but not yet the one of these requests
+-- a message, is owed one at most, and none unless it waits; it asked and answered these groups, but
+-- not yet the one of these requests; and its seat passed over numbers for an After alone
 pub record SessionPromise {F : Type 0} (setting : Setting) (sent : ℕ → List (Ask F))
     (received : ℕ → List (Answer F)) (groups : List (List Pair)) (requests : List Request)
-    (waiting : Bool) : Type 0 where
+    (waiting : Bool) (view : View) : Type 0 where
   pub taken : (worker : ℕ) → worker < setting.workers → AllByRecursion (λ message.
       takes_message setting.layout worker setting.workers message ≡ true)
       (all_asking (sent worker))
@@ -78,3 +79,4 @@ pub record SessionPromise {F : Type 0} (setting : Setting) (sent : ℕ → List 
       → length (all_asking (sent worker)) ≤ length (heard worker)
   pub asks : AsksGroups setting (λ worker. groups_in (sent worker))
       (λ worker. replies_of (answered_in (heard worker))) groups requests waiting
+  pub looks : KeepsLooks view groups asks.exchanges

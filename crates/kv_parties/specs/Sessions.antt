@@ -1,13 +1,13 @@
 -- What a session promises of the groups that it asked and answered; it speaks of its own data
 -- alone.
 use Rattle.std.specs.Prelude.{◌≡◌, ◌⊎◌, ◌<◌, ℕ, max, ⊤, List, [], ◌∷◌, ◌++◌, length, map, filter}
-use Rattle.std.specs.Prelude.{Bool, true, false, ◌&&◌, IsSome}
+use Rattle.std.specs.Prelude.{Bool, true, false, ◌&&◌, IsSome, IfSome}
 use Rattle.std.specs.List.{AllByRecursion, flat_map}
 use Rattle.kv_base.specs.declared.reply.Reply.{Reply}
 use Rattle.kv_base.specs.declared.request.Request.{Request}
 use Rattle.kv_model.specs.Layout.{Layout}
-use Rattle.kv_model.specs.Pairs.{Pair, stamps, key_of, requests_of}
-use Rattle.kv_parties.specs.Causes.{IsOwn}
+use Rattle.kv_model.specs.Pairs.{Pair, seen_in, counter_by, key_of, requests_of}
+use Rattle.kv_parties.specs.Causes.{IsOwn, IsLooked}
 use Rattle.kv_parties.specs.Setting.{Setting, owns}
 use Rattle.kv_parties.specs.Groups.{Asked}
 
@@ -22,10 +22,23 @@ pub record IsHandled (layout : Layout) (handled : Handled) : Type 0 where
   pub keyed : IsSome (key_of handled.pair.request)
   pub own : handled.routed ≡ false → IsOwn layout handled.pair
 
--- a group that a session has answered, and the greatest stamp that it had seen before
+-- a group that a session has answered, and the greatest stamp that it had seen before, in a reply
+-- or by an After that was noted
 pub record Exchange : Type 0 where
   pub seen : ℕ
   pub handled : List Handled
+
+-- the exchange is one After alone, which the session answered itself by the counter; a number that
+-- the reply tells is above what the session had seen
+pub record IsLook (exchange : Exchange) : Type 0 where
+  pub pair : Pair
+  pub alone : exchange.handled ≡ record { pair = pair; routed = false } ∷ []
+  pub answer : IsLooked pair
+  pub above : IfSome (counter_by pair.request pair.reply) (λ number. exchange.seen < number)
+
+-- the exchange is of requests about keys, or a look at the counter
+abbrev pub IsExchange : Layout → Exchange → Type 0
+IsExchange layout exchange = AllByRecursion (IsHandled layout) exchange.handled ⊎ IsLook exchange
 
 -- the pairs of the exchange
 abbrev pub exchange_pairs : Exchange → List Pair
@@ -73,17 +86,17 @@ abbrev pub greatest : ℕ → List ℕ → ℕ
 greatest number [] = number
 greatest number (next ∷ numbers) = greatest (max number next) numbers
 
--- the greatest of the stamp and those of the exchanges
+-- the greatest of the stamp and all that was seen by the exchanges
 abbrev pub seen_behind : ℕ → List Exchange → ℕ
 seen_behind seen [] = seen
 seen_behind seen (exchange ∷ exchanges) =
-    seen_behind (greatest seen (stamps (exchange_pairs exchange))) exchanges
+    seen_behind (greatest seen (seen_in (exchange_pairs exchange))) exchanges
 
--- before each exchange the session had seen the greatest of the stamp and those before it
+-- before each exchange the session had seen the greatest of the stamp and what it saw before that
 abbrev pub HaveSeen : ℕ → List Exchange → Type 0
 HaveSeen seen [] = ⊤
 HaveSeen seen (exchange ∷ exchanges) = (exchange.seen ≡ seen)
-    × HaveSeen (greatest seen (stamps (exchange_pairs exchange))) exchanges
+    × HaveSeen (greatest seen (seen_in (exchange_pairs exchange))) exchanges
 
 -- a request of the group under way, and whether a worker was asked for it
 pub record Sent : Type 0 where
@@ -129,9 +142,9 @@ IsPending false setting seen requests asking coming = IsStill setting requests a
 IsPending true setting seen requests asking coming =
     IsUnderWay setting seen requests asking coming
 
--- the session routed each request to its owner, answered each group when all replies had come, and
--- told the workers what it had seen; asking and coming are of the group under way, which has these
--- requests
+-- the session routed each request about a key to its owner, answered each group when all replies
+-- had come, and each After by the counter, and told the workers what it had seen; asking and coming
+-- are of the group under way, which has these requests
 pub record AsksGroups (setting : Setting) (asked : ℕ → List Asked)
     (heard : ℕ → List (List Reply)) (groups : List (List Pair)) (requests : List Request)
     (waiting : Bool) : Type 0 where
@@ -144,6 +157,5 @@ pub record AsksGroups (setting : Setting) (asked : ℕ → List Asked)
   pub hears : (worker : ℕ) → worker < setting.workers
       → heard worker ≡ all_replied setting.workers worker exchanges ++ coming worker
   pub seen : HaveSeen 0 exchanges
-  pub handled : AllByRecursion (λ exchange. AllByRecursion (IsHandled setting.layout)
-      exchange.handled) exchanges
+  pub handled : AllByRecursion (IsExchange setting.layout) exchanges
   pub pending : IsPending waiting setting (seen_behind 0 exchanges) requests asking coming

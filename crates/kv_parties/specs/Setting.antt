@@ -1,5 +1,5 @@
 -- What all parties serve, and who owns what of it.
-use Rattle.std.specs.Prelude.{◌≡◌, ℕ, Bool, false, Option, None, Some, List, nat_eq, IfSome}
+use Rattle.std.specs.Prelude.{◌≡◌, ℕ, Bool, false, Option, None, Some, List, nat_eq, IsSomeAnd}
 use Rattle.std.specs.Prelude.{filter}
 use Rattle.kv_base.specs.Partition.{owner_of}
 use Rattle.kv_base.specs.declared.request.Request.{Request}
@@ -19,7 +19,7 @@ pub record Setting : Type 0 where
 
 -- the request is about a key that the worker, of so many, owns
 abbrev pub IsOwned : ℕ → ℕ → Request → Type 0
-IsOwned workers worker request = IfSome (key_of request) (λ key. owner_of key workers ≡ worker)
+IsOwned workers worker request = IsSomeAnd (key_of request) (λ key. owner_of key workers ≡ worker)
 
 -- the worker, of so many, owns the key, if there is one
 abbrev pub owns : ℕ → ℕ → Option (List ℕ) → Bool

@@ -21,7 +21,7 @@ pub fn reply_to(request: &Request) -> Reply
         Request::Delete { key } => Reply::Absent {
             stamp: first_of(key),
         },
-        Request::Flush => Reply::Closed,
+        Request::Flush | Request::After { .. } => Reply::Closed,
     }
 }
 

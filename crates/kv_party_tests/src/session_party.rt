@@ -19,6 +19,14 @@ const GROUP: &[u8] =
 const REPLIES: &[u8] = b"\x09\0\0\0\x81a\0\0\0\0\0\0\0\x01\0\0\0\xE1\
 \x09\0\0\0\x83b\0\0\0\0\0\0\0\x09\0\0\0\x85c\0\0\0\0\0\0\0";
 
+// Put a 1, After 97, After 98: 97 is the byte a.
+const TOLD: &[u8] =
+    b"\x04\0\0\0\x01\x01a1\x09\0\0\0\x06a\0\0\0\0\0\0\0\x09\0\0\0\x06b\0\0\0\0\0\0\0";
+
+// Stored 97, Noted, Ahead 98: the counter is raised to one more than the session has seen.
+const TOLD_REPLIES: &[u8] =
+    b"\x09\0\0\0\x81a\0\0\0\0\0\0\0\x01\0\0\0\x87\x09\0\0\0\xEAb\0\0\0\0\0\0\0";
+
 // A session's party and the ends of two workers.
 #[derive(Drop)]
 struct Made {
@@ -100,11 +108,11 @@ fn serve_at(made: &mut Made, worker: usize) -> Option<usize> {
     }
 }
 
-// Whether the replies went out, and the input ended.
-fn ended_well(parts: &PartyParts<MemSource, MemSink, u8>) -> bool {
+// Whether these replies went out, and the input ended.
+fn ended_well(parts: &PartyParts<MemSource, MemSink, u8>, replies: &[u8]) -> bool {
     match &parts.ending {
         Some(ending) => matches!(ending.cause, Cause::End)
-            && same_bytes(parts.sink.taken(), REPLIES),
+            && same_bytes(parts.sink.taken(), replies),
         None => false,
     }
 }
@@ -141,7 +149,41 @@ fn replies_come_in_the_order_of_the_requests(rt: HostRuntime) -> Result<(), Fail
         assert_eq!(rt; serve_at(&mut made, worker), Some(99), "Bye to {worker}");
         assert_eq!(rt; serve_at(&mut made, worker), None, "nothing behind it");
     }
-    assert!(rt; ended_well(&made.party.into_parts()));
+    assert!(rt; ended_well(&made.party.into_parts(), REPLIES));
+    Ok(())
+}
+
+#[test]
+fn an_after_is_answered_behind_the_group_that_it_ends(rt: HostRuntime) -> Result<(), Fail> {
+    let mut made = make(rt.alloc(), TOLD)?;
+    assert_eq!(rt;
+        turn(&mut made),
+        (1, false, [true, false]),
+        "a group of one"
+    );
+    assert_eq!(rt; serve_at(&mut made, 0), Some(1), "a");
+    assert_eq!(rt;
+        turn(&mut made),
+        (1, false, [false, false]),
+        "it replies to the group and to After 97"
+    );
+    assert_eq!(rt;
+        turn(&mut made),
+        (1, false, [false, false]),
+        "After 98 is a group by itself"
+    );
+    assert_eq!(rt;
+        turn(&mut made),
+        (3, true, [false, false]),
+        "the input ended"
+    );
+    let Made {
+        stamps,
+        mut party,
+        workers: _,
+    } = made;
+    assert_eq!(rt; party.look(&stamps), 98, "it raised the counter");
+    assert!(rt; ended_well(&party.into_parts(), TOLD_REPLIES));
     Ok(())
 }
 

@@ -214,7 +214,8 @@ fn session_over(
     source: MemSource,
     sink: MemSink,
 ) -> Result<Session<MemSource, MemSink>, NoMemory>
-    ensures { IfOk result (λ session. (session.closing ≡ None) × (session.ending ≡ None)) }
+    ensures { IfOk result (λ session. (session.closing ≡ None) × (session.after ≡ None)
+        × (session.ending ≡ None)) }
 {
     match Session::new(alloc, source, sink) {
         Ok(session) => Ok(session),

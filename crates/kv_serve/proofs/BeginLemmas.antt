@@ -38,6 +38,7 @@ begins-run d i worker counter before floor begins is =
       answers = record {
         agrees = record { distinct = tt; above = tt; fresh = tt; replies = tt };
         ordered = record { across = tt; within = tt };
+        counter = record { floor_is = tt; across = tt };
         closes = tt;
         faults = refl;
         spent = tt;
@@ -61,6 +62,7 @@ begins-run d i worker counter before floor begins is =
         earlier = All-map (λ write. write.stamp ≤ floor) (λ write. write.stamp < counter.next)
             before (λ write le. omega (arith, le, next)) begins.below;
         below = tt;
+        noted = tt;
         spent = λ e. absurd (true≢false (sym e ∙ ap (λ (c : Counter). c.spent) is));
       };
       follows = λ open_. subst (λ w. FollowsHistory d.tells w (counter.next - 1)

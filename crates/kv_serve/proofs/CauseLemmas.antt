@@ -1,26 +1,27 @@
 -- Each Full of a run has its cause.
 use Rattle.std.proofs.Common.{◌≡◌, ◌≢◌, ◌⊎◌, inl, inr, ℕ, ◌+◌, ◌-◌, List, [], ◌∷◌, ◌++◌, map, Option}
 use Rattle.std.proofs.Common.{Some, None, Bool, refl, sym, ap, subst, ◌∙◌, IsTrue, true≢false, is_some}
-use Rattle.std.proofs.Common.{Contains, option_to_list}
+use Rattle.std.proofs.Common.{Contains, option_to_list, cond, true, false}
+use Rattle.std.specs.Prelude.{nat_lt}
 use Rattle.std.specs.List.{AllByRecursion}
 use Rattle.std.proofs.lemmas.List.Elements.{filter_map-append, Contains-append_left}
 use Rattle.std.proofs.lemmas.List.Elements.{Contains-append_right, Contains-append_cases}
 use Rattle.kv_base.specs.declared.reply.Reply.{Reply}
-use Rattle.kv_base.specs.declared.reply.Reply.TheVariants.{Full, Found}
+use Rattle.kv_base.specs.declared.reply.Reply.TheVariants.{Full, Found, Noted, Ahead}
 use Rattle.kv_base.specs.declared.request.Request.{Request}
-use Rattle.kv_base.specs.declared.request.Request.TheVariants.{Put, Get, Delete, Flush}
+use Rattle.kv_base.specs.declared.request.Request.TheVariants.{Put, Get, Delete, Flush, After}
 use Rattle.kv_disk.specs.declared.disk.Disk as disks
 use Rattle.kv_index.specs.declared.index.Index as indexes
 use Rattle.kv_model.proofs.AnswersLemmas.{IsAbsent, kinds, acknowledged_here, cons-is}
 use Rattle.kv_model.proofs.ContainsLemmas.{All-members}
 use Rattle.kv_model.proofs.PairwiseLemmas.{All-append, All-map, All-front, All-rest}
-use Rattle.kv_model.specs.Agreement.{told_of}
+use Rattle.kv_model.specs.Agreement.{told_of, counter_reply}
 use Rattle.kv_model.specs.Batch.{Start, answers, accepted, accepted_writes, behind, failed_reply}
 use Rattle.kv_model.specs.Batch.{failed_replies}
 use Rattle.kv_model.specs.BatchLaws.{pairs_of}
 use Rattle.kv_model.specs.History.{Write}
 use Rattle.kv_model.specs.Items.{FollowsHistory}
-use Rattle.kv_model.specs.Pairs.{Pair, acknowledged, unsure_by, writes, unsure_writes}
+use Rattle.kv_model.specs.Pairs.{Pair, acknowledged, unsure_by, writes, unsure_writes, told_pair}
 use Rattle.kv_slab.specs.View.{View}
 use Rattle.kv_worker.specs.Worker.{start_of}
 use Rattle.kv_serve.specs.Answers.{IsFullAt}
@@ -194,6 +195,7 @@ failed-cause limit history (Put key value) stamp reply cause = λ class e. absur
 failed-cause limit history (Get key) stamp reply cause = λ class e. absurd (none-some class e)
 failed-cause limit history (Delete key) stamp reply cause = λ class e. absurd (none-some class e)
 failed-cause limit history Flush stamp reply cause = cause
+failed-cause limit history (After told) stamp reply cause = cause
 
 failed-causes : (limit : ℕ) (history : List Write) (requests : List Request) (stamp : ℕ)
     (replies : List Reply) → AllByRecursion (HasCause limit history) replies
@@ -222,6 +224,21 @@ group-full limit before pairs group requests given full has causes =
     (IsFullAt limit (history_of before (pairs ++ group))) (pairs_of requests given)
     (λ pair cause class e. cause class (ap full_of e))
     (pairs-all (HasCause limit (history_of before (pairs ++ group))) requests given causes)))
+
+-- an After that the counter answers isn't Full
+pub after-full : (limit : ℕ) (before : List Write) (pairs : List Pair) (stamp number : ℕ)
+    → AreFull limit before pairs
+    → AreFull limit before (pairs ++ told_pair stamp (counter_reply stamp number) ∷ [])
+after-full limit before pairs stamp number full =
+    let group : List Pair = told_pair stamp (counter_reply stamp number) ∷ [] in
+    All-append (IsFullAt limit (history_of before (pairs ++ group))) pairs group
+    (full-more limit (history_of before pairs) (history_of before (pairs ++ group)) pairs
+    (old-part before pairs group) full)
+    ((λ class e. absurd (by (nat_lt stamp number) class e)), tt)
+  where
+    by : (less : Bool) (class : ℕ) → cond less Noted (Ahead number) ≡ Full class → ⊥
+    by true class e = cc
+    by false class e = cc
 
 -- one refusal of all requests, which isn't Full
 pub const-causes : (limit : ℕ) (history : List Write) (reply : Reply) (requests : List Request)

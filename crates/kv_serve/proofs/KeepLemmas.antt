@@ -1,76 +1,53 @@
 -- A group keeps what a run owes, whatever becomes of it.
 use Rattle.std.proofs.Common.{◌≡◌, ◌⊎◌, inl, inr, ℕ, zero, suc, ◌≤◌, List, [], ◌∷◌, ◌++◌, map}
-use Rattle.std.proofs.Common.{length, filter, Option, Some, None, Bool, true, refl, sym}
-use Rattle.std.proofs.Common.{ap, subst, ◌∙◌, arith, IsTrue, IsSome, true≢false}
-use Rattle.std.specs.List.{AllByRecursion, flat_map}
-use Rattle.kv_base.specs.declared.cause.Cause.{Cause}
+use Rattle.std.proofs.Common.{length, None, refl, sym}
+use Rattle.std.proofs.Common.{ap, subst, ◌∙◌, arith, IsTrue, IsSome}
+use Rattle.std.specs.List.{AllByRecursion}
 use Rattle.kv_base.specs.declared.reply.Reply.{Reply}
 use Rattle.kv_base.specs.declared.reply.Reply.TheVariants.{NoMemory, Closed, StampsSpent}
 use Rattle.kv_base.specs.declared.request.Request.{Request}
-use Rattle.kv_base.specs.declared.request.Request.TheVariants.{Put, Get, Delete, Flush}
 use Rattle.kv_disk.specs.declared.disk.Disk as disks
 use Rattle.kv_index.specs.declared.index.Index as indexes
-use Rattle.kv_model.proofs.GroupLemmas.{with_group-flat}
-use Rattle.kv_model.proofs.PairwiseLemmas.{All-rest, All-map}
+use Rattle.kv_model.proofs.CounterLemmas.{IsKeyed}
 use Rattle.kv_model.specs.Agreement.{WithRefusals}
 use Rattle.kv_model.specs.Batch.{Start, IsTask, answers}
 use Rattle.kv_model.specs.BatchLaws.{pairs_of}
-use Rattle.kv_model.specs.Groups.{Groups, groups_of, with_group, all_groups, has_reply}
 use Rattle.kv_model.specs.History.{Write}
 use Rattle.kv_model.specs.Layout.{all_classes}
-use Rattle.kv_model.specs.Pairs.{Pair, key_of, pairs_in, requests_of, acknowledged_by}
+use Rattle.kv_model.specs.Pairs.{Pair, key_of, pairs_in, acknowledged_by}
 use Rattle.kv_model.specs.Pairs.{unsure_writes}
-use Rattle.kv_session.specs.Passage.{Streams, HasRead, IsLastGroup, with_pairs}
-use Rattle.kv_session.specs.Session.{SessionState}
+use Rattle.kv_session.specs.Passage.{with_pairs}
+use Rattle.kv_session.specs.Tasks.{AreTaken, GoesOn, IsRefused}
+use Rattle.kv_ring.specs.declared.task.Task.{Task}
 use Rattle.kv_worker.specs.Steps.{HasRefusal, HasOutcome as HasStepOutcome}
 use Rattle.kv_worker.specs.Worker.{WorkerView, start_of}
 use Rattle.kv_serve.specs.Laws.{RunLaws}
 use Rattle.kv_serve.specs.Outcome.{IsAhead, IsAlone, HasBatch}
 use Rattle.kv_serve.specs.Outcome.{HasOutcome, AnswersGroup}
+use Rattle.kv_serve.specs.Answers.{count_keyed}
 use Rattle.kv_serve.specs.Run.{HasRun}
+use Rattle.kv_serve.proofs.RunLemmas.{count_keyed-all}
 use Rattle.kv_serve.specs.declared.counter.Counter.{Counter}
 use Rattle.kv_serve.proofs.CauseLemmas.{AreFull, history_of, group-full, const-causes}
 use Rattle.kv_serve.proofs.CauseLemmas.{done-causes, failed-full}
 use Rattle.kv_serve.proofs.FullLemmas.{HasCause, full_of}
-use Rattle.kv_serve.proofs.ListLemmas.{filtered}
 use Rattle.kv_serve.proofs.OwnLemmas.{batch-few, batch-refusals}
 use Rattle.kv_serve.proofs.StampLemmas.{written-told, acknowledged-told}
 use Rattle.kv_serve.proofs.StepLemmas.{idle-run, closed-run, spent-run, done-run}
 use Rattle.kv_serve.proofs.StepLemmas.{refused-run, failed-run, steps-ahead}
 
-replied-keyed : (request : Request) → has_reply request ≡ true → IsSome (key_of request)
-replied-keyed (Put key value) e = refl
-replied-keyed (Get key) e = refl
-replied-keyed (Delete key) e = refl
-replied-keyed Flush e = absurd (true≢false (sym e))
-
--- the groups of what was handled end with the one that was read last
-all-groups : (closing : Option Cause) (bytes rest : List ℕ) (ended : Bool) (now : Groups)
-    (groups : List (List Request)) (asked : List Request)
-    → IsLastGroup closing bytes rest ended now groups asked
-    → all_groups now ≡ with_group groups asked
-all-groups None bytes rest ended now groups asked last =
-    ap (with_group now.ended) last.1 ∙ last.0
-all-groups (Some cause) bytes rest ended now groups asked last =
-    ap (λ g. with_group g now.current) last.0 ∙ ap (with_group groups) last.1
-
--- each request of a group is about a key
-pub asked-keyed : (laws : RunLaws) {So Si : Type 0} (streams : Streams So Si) (source : So)
-    (sink : Si) (groups : List (List Pair)) (asked : List Request) (now : SessionState So Si)
-    → HasRead streams source sink groups asked now
+-- each request that has a task is about a key
+pub asked-keyed : (asked : List Request) (tasks : List Task) → AreTaken asked tasks
     → AllByRecursion (λ request. IsSome (key_of request)) asked
-asked-keyed laws streams source sink groups asked now read =
-    let before : List (List Request) = map requests_of groups in
-    let parts : filter has_reply read.handled ≡ flat_map (λ group. group) before ++ asked =
-    sym (laws.groups.parts read.handled)
-    ∙ ap (flat_map (λ group. group)) (all-groups now.closing read.bytes now.waiting now.ended
-    (groups_of read.handled) before asked read.last)
-    ∙ with_group-flat before asked in
-    All-map (λ request. has_reply request ≡ true) (λ request. IsSome (key_of request)) asked
-    replied-keyed
-    (All-rest (λ request. has_reply request ≡ true) (flat_map (λ group. group) before) asked
-    (subst (AllByRecursion (λ request. has_reply request ≡ true)) parts
-    (filtered has_reply read.handled)))
+asked-keyed [] [] taken = tt
+asked-keyed [] (task ∷ tasks) taken = absurd taken
+asked-keyed (request ∷ asked) [] taken = absurd taken
+asked-keyed (request ∷ asked) (task ∷ tasks) taken =
+    (one taken.0, asked-keyed asked tasks taken.1)
+  where
+    one : GoesOn request task ⊎ IsRefused request task → IsSome (key_of request)
+    one (inl on) = on.good.keyed
+    one (inr refused) = refused.keyed
 
 pairs-keyed : (requests : List Request) (replies : List Reply)
     → AllByRecursion (λ request. IsSome (key_of request)) requests
@@ -221,37 +198,38 @@ run-push : {D I : Type 0} (laws : RunLaws) (d : disks.Ghosts D) (i : indexes.Gho
     (groups : List (List Pair)) (group : List Pair) (requests : List Request) (given : List Reply)
     → HasRun d i first old from before floor groups
     → AllByRecursion (IsTask all_classes) requests → HasBatch (pairs_of requests given) group
+    → AllByRecursion IsKeyed group
     → WithRefusals d.tells all_classes (pairs_of requests given) group
-    → length requests ≤ length group → length requests ≤ 64
+    → length requests ≤ count_keyed group → length requests ≤ 64
     → HasOutcome d i old new from to requests given
     → (IsTrue d.tells → AreFull first.store.limits.slots before (pairs_in groups ++ group))
     → HasRun d i first new to before floor (groups ++ group ∷ [])
-run-push laws d i first old new from to before floor groups group requests given run good has among
-    few most (inl idle) full =
-    idle-run laws d i first old new from to before floor groups group requests given run has among
-    idle full
-run-push laws d i first old new from to before floor groups group requests given run good has among
-    few most (inr (inl at)) full =
+run-push laws d i first old new from to before floor groups group requests given run good has keyed
+    among few most (inl idle) full =
+    idle-run laws d i first old new from to before floor groups group requests given run has keyed
+    among idle full
+run-push laws d i first old new from to before floor groups group requests given run good has keyed
+    among few most (inr (inl at)) full =
     closed-run laws d i first old new from to before floor groups group requests given run good has
-    among at full
-run-push laws d i first old new from to before floor groups group requests given run good has among
-    few most (inr (inr (inl at))) full =
+    keyed among at full
+run-push laws d i first old new from to before floor groups group requests given run good has keyed
+    among few most (inr (inr (inl at))) full =
     spent-run laws d i first old new from to before floor groups group requests given run good has
-    among few most at full
-run-push laws d i first old new from to before floor groups group requests given run good has among
-    few most (inr (inr (inr at))) full = by at.steps.outcome
+    keyed among few most at full
+run-push laws d i first old new from to before floor groups group requests given run good has keyed
+    among few most (inr (inr (inr at))) full = by at.steps.outcome
   where
     by : HasStepOutcome d i old.store new.store requests from.next given
         → HasRun d i first new to before floor (groups ++ group ∷ [])
     by (inl done) =
         done-run laws d i first old new from to before floor groups group requests given run good
-        has among few at done full
+        has keyed among few at done full
     by (inr (inl refused)) =
         refused-run laws d i first old new from to before floor groups group requests given run good
-        has among few at refused full
+        has keyed among few at refused full
     by (inr (inr failed)) =
         failed-run laws d i first old new from to before floor groups group requests given run good
-        has among few at failed full
+        has keyed among few at failed full
 
 -- a group that is answered keeps what a run owes
 pub run-goes_on : {D I : Type 0} (laws : RunLaws) (d : disks.Ghosts D) (i : indexes.Ghosts I)
@@ -275,19 +253,25 @@ run-goes_on {D} {I} laws d i first old new from to before floor groups asked rep
       pairs-many answers.requests answers.given answers.each,
     )
 
+    about : AllByRecursion IsKeyed group
+    about = pairs-keyed asked replies keyed
+
+    enough : length answers.requests ≤ count_keyed group
+    enough = omega (arith, few, count_keyed-all group about)
+
     pushed : 1 ≤ length group
         → HasRun d i first new to before floor (with_pairs groups group)
     pushed some = subst (HasRun d i first new to before floor)
         (sym (with_pairs-push groups group some))
         (run-push laws d i first old new from to before floor groups group answers.requests
-        answers.given run answers.good answers.batch
-        (batch-refusals d.tells group (pairs_of answers.requests answers.given)
-        (pairs-keyed asked replies keyed) answers.batch) few
+        answers.given run answers.good answers.batch about
+        (batch-refusals d.tells group (pairs_of answers.requests answers.given) about
+        answers.batch) enough
         (omega (arith, few, pairs-many asked replies each, most)) answers.outcome
         (run-full laws d i first old new from to before floor groups group answers.requests
         answers.given run answers.batch
-        (batch-refusals d.tells group (pairs_of answers.requests answers.given)
-        (pairs-keyed asked replies keyed) answers.batch) answers.outcome))
+        (batch-refusals d.tells group (pairs_of answers.requests answers.given) about
+        answers.batch) answers.outcome))
 
     by : ((new ≡ old) × (to ≡ from)) ⊎ (1 ≤ length answers.requests)
         → HasRun d i first new to before floor (with_pairs groups group)

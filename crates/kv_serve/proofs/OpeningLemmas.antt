@@ -8,7 +8,7 @@ use Rattle.kv_base.specs.declared.reply.Reply.{Reply}
 use Rattle.kv_base.specs.declared.reply.Reply.TheVariants.{Stored, Found, Missing, Removed, Absent}
 use Rattle.kv_base.specs.declared.reply.Reply.TheVariants.{Unsure}
 use Rattle.kv_base.specs.declared.request.Request.{Request}
-use Rattle.kv_base.specs.declared.request.Request.TheVariants.{Put, Get, Delete, Flush}
+use Rattle.kv_base.specs.declared.request.Request.TheVariants.{Put, Get, Delete, Flush, After}
 use Rattle.kv_base.proofs.CrashLemmas.{joins, weaker}
 use Rattle.kv_base.proofs.ImageLemmas.{only_image}
 use Rattle.kv_disk.specs.declared.disk.Disk.{Ghosts}
@@ -69,6 +69,7 @@ with-written (Put key value) stamp bound rest le all = (le, all)
 with-written (Get key) stamp bound rest le all = all
 with-written (Delete key) stamp bound rest le all = (le, all)
 with-written Flush stamp bound rest le all = all
+with-written (After told) stamp bound rest le all = all
 
 -- stamps above the floor and below the end of stamps
 abbrev AreAbove : ℕ → List ℕ → Type 0

@@ -6,7 +6,7 @@ use Rattle.std.specs.List.{AllByRecursion}
 use Rattle.kv_base.specs.declared.reply.Reply.{Reply}
 use Rattle.kv_base.specs.declared.reply.Reply.TheVariants.{BadKey, TooLarge, NoMemory, Closed}
 use Rattle.kv_base.specs.declared.request.Request.{Request}
-use Rattle.kv_base.specs.declared.request.Request.TheVariants.{Put, Get, Delete, Flush}
+use Rattle.kv_base.specs.declared.request.Request.TheVariants.{Put, Get, Delete, Flush, After}
 use Rattle.kv_model.specs.Agreement.{refusal_of, IsMapAnswer, IsRefusal, WithRefusals}
 use Rattle.kv_model.specs.History.{Write}
 use Rattle.kv_model.specs.Layout.{all_classes, class_of, is_key_length}
@@ -42,6 +42,7 @@ refused-has P none bad large (Delete key) reply own =
     by true e = subst P (sym e) none
     by false e = subst P (sym e) bad
 refused-has P none bad large Flush reply own = subst P (sym own) none
+refused-has P none bad large (After stamp) reply own = subst P (sym own) none
 
 pub own-has : (P : Reply → Type 0) → P NoMemory → P BadKey → P TooLarge → (pair : Pair)
     → IsOwn pair → P pair.reply
@@ -54,6 +55,7 @@ no_memory-may told history (Put key value) keyed = tt
 no_memory-may told history (Get key) keyed = tt
 no_memory-may told history (Delete key) keyed = tt
 no_memory-may told history Flush keyed = absurd (true≢false (sym keyed))
+no_memory-may told history (After seen) keyed = absurd (true≢false (sym keyed))
 
 -- each is a refusal
 pub own-refusal : (told : Bool) (pair : Pair) → IsSome (key_of pair.request) → IsOwn pair
@@ -76,9 +78,9 @@ own-closed_at true pair own = inr (by (refusal_of all_classes pair.request) own)
   where
     by : (o : Option Reply)
         → MatchOption o (pair.reply ≡ NoMemory) (λ refusal. pair.reply ≡ refusal)
-        → (pair.reply ≡ NoMemory) ⊎ IsSome o
+        → (pair.reply ≡ NoMemory) ⊎ (IsSome o ⊎ (key_of pair.request ≡ None))
     by None e = inl e
-    by (Some refusal) e = inr refl
+    by (Some refusal) e = inr (inl refl)
 own-closed_at false pair own =
     own-has (λ reply. reply ≢ Closed) (λ e. cc) (λ e. cc) (λ e. cc) pair own
 

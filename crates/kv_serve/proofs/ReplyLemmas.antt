@@ -8,7 +8,7 @@ use Rattle.kv_base.specs.declared.reply.Reply.TheVariants.{Found}
 use Rattle.kv_base.specs.declared.reply.Reply.TheVariants.{Full}
 use Rattle.kv_base.specs.declared.reply.Reply.TheVariants.{DiskFault, Unsure, Closed, StampsSpent}
 use Rattle.kv_base.specs.declared.request.Request.{Request}
-use Rattle.kv_base.specs.declared.request.Request.TheVariants.{Put, Get, Delete, Flush}
+use Rattle.kv_base.specs.declared.request.Request.TheVariants.{Put, Get, Delete, Flush, After}
 use Rattle.kv_model.specs.Agreement.{told_of, IsMapAnswer, IsRefusal}
 use Rattle.kv_model.specs.Batch.{Start, IsTask, answers, reply_of, put_reply, get_reply}
 use Rattle.kv_model.specs.Batch.{delete_reply, behind, failed_reply, failed_replies, full_class}
@@ -93,6 +93,7 @@ calm-answers (request ∷ requests) start writes stamp = (
       by None = refl
       by (Some value) = refl
   calm-answer Flush start writes stamp = refl
+  calm-answer (After told) start writes stamp = refl
 
 same-calm : (replies others : List Reply) → map is_calm replies ≡ map is_calm others
     → AllByRecursion IsCalm others → AllByRecursion IsCalm replies
@@ -120,6 +121,7 @@ served-failed (Put key value) stamp reply served = refl
 served-failed (Get key) stamp reply served = refl
 served-failed (Delete key) stamp reply served = refl
 served-failed Flush stamp reply served = served
+served-failed (After told) stamp reply served = served
 
 -- where a write failed the store was open, and had stamps
 pub served-replies : (requests : List Request) (stamp : ℕ) (replies : List Reply)
@@ -220,6 +222,7 @@ disk_fault-may told history (Put key value) keyed = tt
 disk_fault-may told history (Get key) keyed = tt
 disk_fault-may told history (Delete key) keyed = tt
 disk_fault-may told history Flush keyed = absurd (true≢false (sym keyed))
+disk_fault-may told history (After seen) keyed = absurd (true≢false (sym keyed))
 
 pub closed-may : (told : Bool) (history : List Write) (request : Request)
     → IsSome (key_of request) → IsMapAnswer told all_classes history request Closed
@@ -227,6 +230,7 @@ closed-may told history (Put key value) keyed = tt
 closed-may told history (Get key) keyed = tt
 closed-may told history (Delete key) keyed = tt
 closed-may told history Flush keyed = absurd (true≢false (sym keyed))
+closed-may told history (After seen) keyed = absurd (true≢false (sym keyed))
 
 pub spent-may : (told : Bool) (number : ℕ) (history : List Write) (request : Request)
     → IsSome (key_of request) → IsMapAnswer told all_classes history request (StampsSpent number)
@@ -234,3 +238,4 @@ spent-may told number history (Put key value) keyed = tt
 spent-may told number history (Get key) keyed = tt
 spent-may told number history (Delete key) keyed = tt
 spent-may told number history Flush keyed = absurd (true≢false (sym keyed))
+spent-may told number history (After seen) keyed = absurd (true≢false (sym keyed))

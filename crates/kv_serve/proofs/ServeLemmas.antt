@@ -29,6 +29,7 @@ pub answers-from : {D : Type 0} (d : Ghosts D) (earlier disk disk' : D) (limit :
 answers-from d earlier disk disk' limit before floor groups calm answers = record {
   agrees = answers.agrees;
   ordered = answers.ordered;
+  counter = answers.counter;
   closes = answers.closes;
   faults = answers.faults ∙ ap (faults_behind groups) calm;
   spent = answers.spent;

@@ -7,7 +7,7 @@ use Rattle.kv_base.specs.declared.reply.Reply.{Reply}
 use Rattle.kv_base.specs.declared.reply.Reply.TheVariants.{Stored, Found, Removed}
 use Rattle.kv_base.specs.declared.reply.Reply.TheVariants.{Unsure}
 use Rattle.kv_base.specs.declared.request.Request.{Request}
-use Rattle.kv_base.specs.declared.request.Request.TheVariants.{Put, Get, Delete, Flush}
+use Rattle.kv_base.specs.declared.request.Request.TheVariants.{Put, Get, Delete, Flush, After}
 use Rattle.kv_model.specs.Agreement.{told_of}
 use Rattle.kv_model.specs.BatchLaws.{pairs_of, AreStamped}
 use Rattle.kv_model.specs.Order.{Rises}
@@ -41,6 +41,7 @@ written-has P (Put key value) stamp has = has
 written-has P (Get key) stamp has = tt
 written-has P (Delete key) stamp has = has
 written-has P Flush stamp has = tt
+written-has P (After told) stamp has = tt
 
 acknowledged-has : (P : ℕ → Type 0) (request : Request) (reply : Reply)
     → MatchOption (stamp_of reply) (Unit {0}) P

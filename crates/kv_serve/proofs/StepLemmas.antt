@@ -1,7 +1,7 @@
 -- A run with one more group.
 use Rattle.std.proofs.Common.{◌≡◌, ◌≢◌, ◌⊎◌, inl, inr, ℕ, ◌+◌, ◌-◌, ◌^◌, ◌<◌, ◌≤◌, List, [], ◌∷◌}
 use Rattle.std.proofs.Common.{◌++◌, map, length, Bool, true, false, cond, ◌||◌, refl, sym, ap, subst}
-use Rattle.std.proofs.Common.{◌∙◌, arith, append-nil, length-append, IsTrue, true≢false, subst₂, IsSome}
+use Rattle.std.proofs.Common.{◌∙◌, arith, append-nil, IsTrue, true≢false, subst₂, IsSome}
 use Rattle.std.proofs.Common.{None}
 use Rattle.std.specs.List.{AllByRecursion}
 use Rattle.kv_base.specs.Calls.{next_count}
@@ -15,31 +15,33 @@ use Rattle.kv_disk.specs.declared.disk.Disk as disks
 use Rattle.kv_index.specs.declared.index.Index as indexes
 use Rattle.kv_model.proofs.FailedLemmas.{AreStamped-failed}
 use Rattle.kv_model.proofs.PairwiseLemmas.{All-append}
-use Rattle.kv_model.specs.Agreement.{AgreesWithMap, IsMapAnswer, WithRefusals}
+use Rattle.kv_model.specs.Agreement.{AgreesWithMap, IsMapAnswer, WithRefusals, counter_reply}
 use Rattle.kv_model.specs.Batch.{Start, IsTask, answers}
 use Rattle.kv_model.specs.BatchLaws.{pairs_of, AreStamped}
 use Rattle.kv_model.specs.History.{Write}
 use Rattle.kv_model.specs.Items.{FollowsHistory}
 use Rattle.kv_model.specs.Layout.{all_classes}
 use Rattle.kv_model.specs.Pairs.{Pair, key_of, pairs_in, writes, unsure_writes, acknowledged_by}
-use Rattle.kv_model.specs.Pairs.{unsure_by, stamp_of}
+use Rattle.kv_model.specs.Pairs.{unsure_by, stamp_of, told_pair}
 use Rattle.kv_model.specs.Recovery.{RecoversPrefix}
 use Rattle.kv_worker.specs.Steps.{IsDone, IsRefused, HasRefusal, HasFailed, Continues, Steps}
 use Rattle.kv_worker.specs.Worker.{WorkerView, start_of}
-use Rattle.kv_serve.specs.Answers.{Recovers, IsClosedAt, IsSpentAt, any_unsure}
+use Rattle.kv_serve.specs.Answers.{Recovers, IsClosedAt, IsSpentAt, any_unsure, count_keyed}
 use Rattle.kv_serve.specs.Answers.{any_fault, is_fault, is_unsure}
 use Rattle.kv_serve.specs.Laws.{RunLaws}
 use Rattle.kv_serve.specs.Outcome.{IsAhead, IsAlone, IsIdle, IsClosed, IsSpent, IsStepped, HasBatch}
 use Rattle.kv_serve.specs.Run.{HasStamps, HasRun}
 use Rattle.kv_serve.specs.declared.counter.Counter.{Counter}
+use Rattle.kv_model.proofs.CounterLemmas.{IsKeyed}
 use Rattle.kv_serve.proofs.AddsLemmas.{Adds, refused-adds, done-adds, failed-adds, const-fault}
-use Rattle.kv_serve.proofs.CauseLemmas.{AreFull}
+use Rattle.kv_serve.proofs.AddsLemmas.{after-adds, after-silent}
+use Rattle.kv_serve.proofs.CauseLemmas.{AreFull, after-full}
 use Rattle.kv_serve.proofs.OwnLemmas.{only-refusals, no_memory-may}
 use Rattle.kv_serve.proofs.RecoverLemmas.{writes-more, recovers-same, recovers-more}
 use Rattle.kv_serve.proofs.ReplyLemmas.{any_unsure-is, sure-none, const-refusals, disk_fault-may}
 use Rattle.kv_serve.proofs.ReplyLemmas.{closed-may, spent-may}
 use Rattle.kv_serve.proofs.RunLemmas.{pairs-push, any-append, closes-push, faults-push, ordered-push}
-use Rattle.kv_serve.proofs.RunLemmas.{spent-more}
+use Rattle.kv_serve.proofs.RunLemmas.{spent-more, counter-push, count_keyed-append}
 use Rattle.kv_serve.proofs.StampLemmas.{HasStamp, has-weaker, stamps-all, writes-all, unsure-all}
 use Rattle.kv_serve.proofs.StampLemmas.{within-block, IsWithin, stamped-told, written-told}
 use Rattle.kv_serve.proofs.StampLemmas.{acknowledged-told, unsure-told}
@@ -60,11 +62,15 @@ run-more d i first old new from to before floor groups group run adds recovers f
     ahead follows =
     let pairs : List Pair = pairs_in groups in
     let e : pairs ++ group ≡ pairs_in (groups ++ group ∷ []) = sym (pairs-push groups group) in
-    let many : length (pairs ++ group) ≡ length pairs + length group = length-append pairs group in
+    let many : count_keyed (pairs ++ group) ≡ count_keyed pairs + count_keyed group =
+    count_keyed-append pairs group in
     record {
       answers = record {
         agrees = subst (AgreesWithMap d.tells all_classes before floor) e adds.agrees;
+        counter = counter-push groups group floor from.next run.answers.counter
+            run.stamps.below run.stamps.noted adds.counted;
         ordered = ordered-push groups group from.next run.answers.ordered run.stamps.below
+            run.stamps.noted
             (stamps-all (λ stamp. from.next ≤ stamp) group (has-weaker
             (λ stamp. (from.next ≤ stamp) × (stamp < to.next)) (λ stamp. from.next ≤ stamp)
             (λ stamp h. h.0) group adds.block)) adds.rises;
@@ -73,10 +79,10 @@ run-more d i first old new from to before floor groups group run adds recovers f
         faults = adds.faults
             ∙ ap (λ n. cond (any_fault group) (next_count n) n) run.answers.faults
             ∙ sym (faults-push groups group (d.faults first.store.disk.disk));
-        spent = subst (λ ps. AllByRecursion (IsSpentAt floor (length ps)) ps) e
-            (All-append (IsSpentAt floor (length (pairs ++ group))) pairs group
-            (spent-more floor (length pairs) (length (pairs ++ group)) (omega (arith, many)) pairs
-            run.answers.spent)
+        spent = subst (λ ps. AllByRecursion (IsSpentAt floor (count_keyed ps)) ps) e
+            (All-append (IsSpentAt floor (count_keyed (pairs ++ group))) pairs group
+            (spent-more floor (count_keyed pairs) (count_keyed (pairs ++ group)) (omega (arith, many))
+            pairs run.answers.spent)
             (subst (λ n. AllByRecursion (IsSpentAt floor n) group) (sym many) adds.spent));
         full = λ told. subst (AreFull first.store.limits.slots before) e (full told);
       };
@@ -122,18 +128,35 @@ quiet-run laws d i first old from to before floor groups group run adds silent n
     (n - 1) (start_of d i old.store)) (sym next) (subst (λ w. FollowsHistory d.tells w
     (from.next - 1) (start_of d i old.store)) (sym same) (run.follows open_)))
 
+-- an After was answered by the counter, which stays
+pub after-run : {D I : Type 0} (laws : RunLaws) (d : disks.Ghosts D) (i : indexes.Ghosts I)
+    (first old : WorkerView D I) (counter : Counter) (before : List Write) (floor : ℕ)
+    (groups : List (List Pair)) (stamp : ℕ) → HasRun d i first old counter before floor groups
+    → HasRun d i first old counter before floor
+    (groups ++ (told_pair stamp (counter_reply stamp counter.next) ∷ []) ∷ [])
+after-run laws d i first old counter before floor groups stamp run =
+    let group : List Pair = told_pair stamp (counter_reply stamp counter.next) ∷ [] in
+    let silent : WithRefusals d.tells all_classes [] group =
+    after-silent d.tells stamp counter.next run.ahead.limit in
+    quiet-run laws d i first old counter counter before floor groups group run
+    (after-adds laws d.tells before floor (pairs_in groups) counter old.store.closed
+    (d.faults old.store.disk.disk) stamp run.answers.agrees run.stamps run.ahead.limit) silent refl
+    (λ told. after-full first.store.limits.slots before (pairs_in groups) stamp counter.next
+    (run.answers.full told))
+
 -- nothing went to the worker
 pub idle-run : {D I : Type 0} (laws : RunLaws) (d : disks.Ghosts D) (i : indexes.Ghosts I)
     (first old new : WorkerView D I) (from to : Counter) (before : List Write) (floor : ℕ)
     (groups : List (List Pair)) (group : List Pair) (requests : List Request) (given : List Reply)
     → HasRun d i first old from before floor groups
     → HasBatch (pairs_of requests given) group
+    → AllByRecursion IsKeyed group
     → WithRefusals d.tells all_classes (pairs_of requests given) group
     → IsIdle old new from to requests given
     → (IsTrue d.tells → AreFull first.store.limits.slots before (pairs_in groups ++ group))
     → HasRun d i first new to before floor (groups ++ group ∷ [])
-idle-run laws d i first old new from to before floor groups group requests given run has among idle
-    full =
+idle-run laws d i first old new from to before floor groups group requests given run has keyed
+    among idle full =
     let empty : pairs_of requests given ≡ [] =
     ap (λ rs. pairs_of rs given) idle.none in
     let silent : WithRefusals d.tells all_classes [] group =
@@ -144,7 +167,7 @@ idle-run laws d i first old new from to before floor groups group requests given
     (quiet-run laws d i first old from to before floor groups group run
     (refused-adds laws d.tells before floor (pairs_in groups) group from to old.store.closed
     (d.faults old.store.disk.disk) (d.faults old.store.disk.disk) NoMemory [] run.answers.agrees
-    run.stamps silent (subst (λ b. HasBatch b group) empty has) refl
+    run.stamps silent (subst (λ b. HasBatch b group) empty has) keyed refl
     (λ pair e. no-closed old.store.closed pair e) refl refl (λ number e. absurd cc)
     (omega (arith, next)) (omega (arith, next))
     (λ e. let s = run.stamps.spent (sym spent_was ∙ e) in
@@ -163,12 +186,13 @@ pub closed-run : {D I : Type 0} (laws : RunLaws) (d : disks.Ghosts D) (i : index
     (groups : List (List Pair)) (group : List Pair) (requests : List Request) (given : List Reply)
     → HasRun d i first old from before floor groups
     → AllByRecursion (IsTask all_classes) requests → HasBatch (pairs_of requests given) group
+    → AllByRecursion IsKeyed group
     → WithRefusals d.tells all_classes (pairs_of requests given) group
     → IsClosed old new from to requests given
     → (IsTrue d.tells → AreFull first.store.limits.slots before (pairs_in groups ++ group))
     → HasRun d i first new to before floor (groups ++ group ∷ [])
 closed-run laws d i first old new from to before floor groups group requests given run good has
-    among at full =
+    keyed among at full =
     let is : pairs_of requests given ≡ pairs_of requests (map (λ _. Closed) requests) =
     ap (pairs_of requests) at.replies_are in
     let silent : WithRefusals d.tells all_classes [] group =
@@ -181,7 +205,7 @@ closed-run laws d i first old new from to before floor groups group requests giv
     (quiet-run laws d i first old from to before floor groups group run
     (refused-adds laws d.tells before floor (pairs_in groups) group from to old.store.closed
     (d.faults old.store.disk.disk) (d.faults old.store.disk.disk) Closed requests run.answers.agrees
-    run.stamps silent (subst (λ b. HasBatch b group) is has)
+    run.stamps silent (subst (λ b. HasBatch b group) is has) keyed
     (const-fault Closed requests at.some)
     (λ pair e. subst (λ b. IsClosedAt b pair) (sym at.closed) (inl e)) refl refl
     (λ number e. absurd cc) (omega (arith, next)) (omega (arith, next))
@@ -194,13 +218,14 @@ pub spent-run : {D I : Type 0} (laws : RunLaws) (d : disks.Ghosts D) (i : indexe
     (groups : List (List Pair)) (group : List Pair) (requests : List Request) (given : List Reply)
     → HasRun d i first old from before floor groups
     → AllByRecursion (IsTask all_classes) requests → HasBatch (pairs_of requests given) group
+    → AllByRecursion IsKeyed group
     → WithRefusals d.tells all_classes (pairs_of requests given) group
-    → length requests ≤ length group → length requests ≤ 64
+    → length requests ≤ count_keyed group → length requests ≤ 64
     → IsSpent old new from to requests given
     → (IsTrue d.tells → AreFull first.store.limits.slots before (pairs_in groups ++ group))
     → HasRun d i first new to before floor (groups ++ group ∷ [])
 spent-run laws d i first old new from to before floor groups group requests given run good has
-    among few most at full =
+    keyed among few most at full =
     let reply : Reply = StampsSpent from.next in
     let is : pairs_of requests given ≡ pairs_of requests (map (λ _. reply) requests) =
     ap (pairs_of requests) at.replies_are in
@@ -210,13 +235,13 @@ spent-run laws d i first old new from to before floor groups group requests give
     (subst (λ b. WithRefusals d.tells all_classes b group) is among) in
     let next : to.next ≡ from.next = ap (λ (c : Counter). c.next) at.counter in
     let pairs : List Pair = pairs_in groups in
-    let cause : (2 ^ 62 ≤ floor + (length pairs + length group)) × (2 ^ 62 ≤ from.next + 64) =
+    let cause : (2 ^ 62 ≤ floor + (count_keyed pairs + count_keyed group)) × (2 ^ 62 ≤ from.next + 64) =
     spent-cause pairs run.stamps at.spent few most in
     subst (λ w. HasRun d i first w to before floor (groups ++ group ∷ [])) (sym at.worker)
     (quiet-run laws d i first old from to before floor groups group run
     (refused-adds laws d.tells before floor pairs group from to old.store.closed
     (d.faults old.store.disk.disk) (d.faults old.store.disk.disk) reply requests run.answers.agrees
-    run.stamps silent (subst (λ b. HasBatch b group) is has)
+    run.stamps silent (subst (λ b. HasBatch b group) is has) keyed
     (const-fault reply requests at.some)
     (λ pair e. subst (λ b. IsClosedAt b pair) (sym at.open_) (λ f. not-closed (sym e ∙ f)))
     refl refl
@@ -233,8 +258,8 @@ spent-run laws d i first old new from to before floor groups group requests give
 
     spent-cause : (pairs : List Pair) → HasStamps before floor from pairs
         → (from.spent ≡ true) ⊎ (2 ^ 62 < from.next + length requests)
-        → length requests ≤ length group → length requests ≤ 64
-        → (2 ^ 62 ≤ floor + (length pairs + length group)) × (2 ^ 62 ≤ from.next + 64)
+        → length requests ≤ count_keyed group → length requests ≤ 64
+        → (2 ^ 62 ≤ floor + (count_keyed pairs + count_keyed group)) × (2 ^ 62 ≤ from.next + 64)
     spent-cause pairs stamps (inl was) few most =
         let s = stamps.spent was in (omega (arith, s.0), omega (arith, s.1))
     spent-cause pairs stamps (inr now) few most =
@@ -314,13 +339,14 @@ pub done-run : {D I : Type 0} (laws : RunLaws) (d : disks.Ghosts D) (i : indexes
     (groups : List (List Pair)) (group : List Pair) (requests : List Request) (given : List Reply)
     → HasRun d i first old from before floor groups
     → AllByRecursion (IsTask all_classes) requests → HasBatch (pairs_of requests given) group
+    → AllByRecursion IsKeyed group
     → WithRefusals d.tells all_classes (pairs_of requests given) group
-    → length requests ≤ length group → IsStepped d i old new from to requests given
+    → length requests ≤ count_keyed group → IsStepped d i old new from to requests given
     → IsDone d i old.store new.store requests from.next given
     → (IsTrue d.tells → AreFull first.store.limits.slots before (pairs_in groups ++ group))
     → HasRun d i first new to before floor (groups ++ group ∷ [])
-done-run laws d i first old new from to before floor groups group requests given run good has among
-    few at done full =
+done-run laws d i first old new from to before floor groups group requests given run good has
+    keyed among few at done full =
     let start : Start = start_of d i old.store in
     let pairs : List Pair = pairs_in groups in
     let batch : List Pair = pairs_of requests given in
@@ -344,7 +370,7 @@ done-run laws d i first old new from to before floor groups group requests given
     (subst₂ Step (sym at.open_) (sym done.open_)
     (done-adds laws d.tells before floor pairs group from to (d.faults old.store.disk.disk)
     (d.faults new.store.disk.disk) start requests given run.answers.agrees run.stamps refl
-    (run.follows at.open_) good at.limit done.replies_are among has done.calm few at.counter))
+    (run.follows at.open_) good at.limit done.replies_are among has keyed done.calm few at.counter))
     (steps-recovers laws d i first old new from before floor groups group requests given run
     at.open_ among at.steps from_on
     (subst (AllByRecursion (λ write. from.next ≤ write.stamp)) (sym sure) tt)
@@ -367,8 +393,9 @@ refused-by : {D I : Type 0} (laws : RunLaws) (d : disks.Ghosts D) (i : indexes.G
     (groups : List (List Pair)) (group : List Pair) (requests : List Request) (given : List Reply)
     (reply : Reply) → HasRun d i first old from before floor groups
     → AllByRecursion (IsTask all_classes) requests → HasBatch (pairs_of requests given) group
+    → AllByRecursion IsKeyed group
     → WithRefusals d.tells all_classes (pairs_of requests given) group
-    → length requests ≤ length group → IsStepped d i old new from to requests given
+    → length requests ≤ count_keyed group → IsStepped d i old new from to requests given
     → IsRefused d i old.store new.store requests given → given ≡ map (λ _. reply) requests
     → stamp_of reply ≡ None → ((history : List Write) (request : Request)
     → IsSome (key_of request) → IsMapAnswer d.tells all_classes history request reply)
@@ -379,7 +406,7 @@ refused-by : {D I : Type 0} (laws : RunLaws) (d : disks.Ghosts D) (i : indexes.G
     → (IsTrue d.tells → AreFull first.store.limits.slots before (pairs_in groups ++ group))
     → HasRun d i first new to before floor (groups ++ group ∷ [])
 refused-by laws d i first old new from to before floor groups group requests given reply run good
-    has among few at refused is none may open_ sure unspent fault full =
+    has keyed among few at refused is none may open_ sure unspent fault full =
     let pairs : List Pair = pairs_in groups in
     let batch : List Pair = pairs_of requests given in
     let const : batch ≡ pairs_of requests (map (λ _. reply) requests) = ap (pairs_of requests) is in
@@ -401,7 +428,7 @@ refused-by laws d i first old new from to before floor groups group requests giv
     (subst Step (sym stays)
     (refused-adds laws d.tells before floor pairs group from to old.store.closed
     (d.faults old.store.disk.disk) (d.faults new.store.disk.disk) reply requests run.answers.agrees
-    run.stamps silent (subst (λ b. HasBatch b group) const has) (const-fault reply requests at.some)
+    run.stamps silent (subst (λ b. HasBatch b group) const has) keyed (const-fault reply requests at.some)
     (λ pair e. subst (λ b. IsClosedAt b pair) (sym at.open_) (λ f. open_ (sym e ∙ f))) sure fault
     (λ number e. absurd (unspent number e)) (omega (arith, next)) (omega (arith, next, few))
     (λ e. absurd (true≢false (sym e ∙ ap (λ (c : Counter). c.spent) at.counter)))))
@@ -427,24 +454,25 @@ pub refused-run : {D I : Type 0} (laws : RunLaws) (d : disks.Ghosts D) (i : inde
     (groups : List (List Pair)) (group : List Pair) (requests : List Request) (given : List Reply)
     → HasRun d i first old from before floor groups
     → AllByRecursion (IsTask all_classes) requests → HasBatch (pairs_of requests given) group
+    → AllByRecursion IsKeyed group
     → WithRefusals d.tells all_classes (pairs_of requests given) group
-    → length requests ≤ length group → IsStepped d i old new from to requests given
+    → length requests ≤ count_keyed group → IsStepped d i old new from to requests given
     → IsRefused d i old.store new.store requests given
     → (IsTrue d.tells → AreFull first.store.limits.slots before (pairs_in groups ++ group))
     → HasRun d i first new to before floor (groups ++ group ∷ [])
 refused-run {D} {I} laws d i first old new from to before floor groups group requests given run good
-    has among few at refused full = by refused.reply refused.cause refused.replies_are
+    has keyed among few at refused full = by refused.reply refused.cause refused.replies_are
   where
     by : (reply : Reply) → HasRefusal reply (d.faults old.store.disk.disk)
         (d.faults new.store.disk.disk) → given ≡ map (λ _. reply) requests
         → HasRun d i first new to before floor (groups ++ group ∷ [])
     by reply (inl why) is =
         refused-by laws d i first old new from to before floor groups group requests given NoMemory
-        run good has among few at refused (is ∙ ap (λ r. map (λ _. r) requests) why.0) refl
+        run good has keyed among few at refused (is ∙ ap (λ r. map (λ _. r) requests) why.0) refl
         (no_memory-may d.tells) (λ e. cc) refl (λ number e. cc) why.1 full
     by reply (inr why) is =
         refused-by laws d i first old new from to before floor groups group requests given DiskFault
-        run good has among few at refused (is ∙ ap (λ r. map (λ _. r) requests) why.0) refl
+        run good has keyed among few at refused (is ∙ ap (λ r. map (λ _. r) requests) why.0) refl
         (disk_fault-may d.tells) (λ e. cc) refl (λ number e. cc) why.1 full
 
 -- a write failed
@@ -453,13 +481,14 @@ pub failed-run : {D I : Type 0} (laws : RunLaws) (d : disks.Ghosts D) (i : index
     (groups : List (List Pair)) (group : List Pair) (requests : List Request) (given : List Reply)
     → HasRun d i first old from before floor groups
     → AllByRecursion (IsTask all_classes) requests → HasBatch (pairs_of requests given) group
+    → AllByRecursion IsKeyed group
     → WithRefusals d.tells all_classes (pairs_of requests given) group
-    → length requests ≤ length group → IsStepped d i old new from to requests given
+    → length requests ≤ count_keyed group → IsStepped d i old new from to requests given
     → HasFailed d i old.store new.store requests from.next given
     → (IsTrue d.tells → AreFull first.store.limits.slots before (pairs_in groups ++ group))
     → HasRun d i first new to before floor (groups ++ group ∷ [])
 failed-run laws d i first old new from to before floor groups group requests given run good has
-    among few at failed full =
+    keyed among few at failed full =
     let start : Start = start_of d i old.store in
     let pairs : List Pair = pairs_in groups in
     let batch : List Pair = pairs_of requests given in
@@ -482,7 +511,7 @@ failed-run laws d i first old new from to before floor groups group requests giv
     (subst₂ Step (sym at.open_) (sym failed.closed)
     (failed-adds laws d.tells before floor pairs group from to (d.faults old.store.disk.disk)
     (d.faults new.store.disk.disk) start requests given run.answers.agrees run.stamps refl good
-    at.limit failed.replies_are failed.changes among has failed.counted few at.counter))
+    at.limit failed.replies_are failed.changes among has keyed failed.counted few at.counter))
     (steps-recovers laws d i first old new from before floor groups group requests given run
     at.open_ among at.steps
     (subst (AllByRecursion (λ write. from.next ≤ write.stamp)) (sym nothing) tt)

@@ -1,7 +1,7 @@
 -- What the groups of a whole run owe, over the disk as it was and as it is.
 use Rattle.std.specs.Prelude.{◌≡◌, ◌≢◌, ℕ, ◌+◌, ◌*◌, ◌^◌, ◌≤◌, ◌⊎◌, ◌||◌, List, [], ◌∷◌, ◌++◌}
 use Rattle.std.specs.Prelude.{length, Bool, true, false, Some, IsSome, IsTrue, ⊤, if◌then◌else◌}
-use Rattle.std.specs.Prelude.{Contains}
+use Rattle.std.specs.Prelude.{Contains, None, is_some, filter}
 use Rattle.std.specs.List.{AllByRecursion}
 use Rattle.kv_base.specs.Calls.{next_count}
 use Rattle.kv_base.specs.Crash.{LeavesOnly, MayLeave}
@@ -10,14 +10,14 @@ use Rattle.kv_base.specs.declared.reply.Reply.{Reply}
 use Rattle.kv_base.specs.declared.reply.Reply.TheVariants.{Stored, Found, Missing, Removed, Absent}
 use Rattle.kv_base.specs.declared.reply.Reply.TheVariants.{BadKey, TooLarge, Full, NoMemory}
 use Rattle.kv_base.specs.declared.reply.Reply.TheVariants.{DiskFault, Unsure, Closed, StampsSpent}
-use Rattle.kv_base.specs.declared.reply.Reply.TheVariants.{Malformed}
+use Rattle.kv_base.specs.declared.reply.Reply.TheVariants.{Malformed, Noted, Ahead}
 use Rattle.kv_disk.specs.declared.disk.Disk.{Ghosts}
 use Rattle.kv_model.specs.Agreement.{AgreesWithMap, refusal_of}
 use Rattle.kv_model.specs.Batch.{class_written}
 use Rattle.kv_model.specs.History.{Write}
 use Rattle.kv_model.specs.Layout.{all_classes, is_small}
-use Rattle.kv_model.specs.Order.{RespectsOrder}
-use Rattle.kv_model.specs.Pairs.{Pair, pairs_in, writes, unsure_writes}
+use Rattle.kv_model.specs.Order.{RespectsOrder, TellsCounter}
+use Rattle.kv_model.specs.Pairs.{Pair, key_of, pairs_in, writes, unsure_writes}
 use Rattle.kv_model.specs.Pairwise.{Pairwise}
 use Rattle.kv_model.specs.Recovery.{RecoversPrefix}
 
@@ -37,6 +37,8 @@ is_unsure (Unsure stamp) = true
 is_unsure Closed = false
 is_unsure (StampsSpent number) = false
 is_unsure (Malformed offset) = false
+is_unsure Noted = false
+is_unsure (Ahead number) = false
 
 -- whether the reply tells of a fault of the disk
 abbrev pub is_fault : Reply → Bool
@@ -54,6 +56,8 @@ is_fault (Unsure stamp) = true
 is_fault Closed = false
 is_fault (StampsSpent number) = false
 is_fault (Malformed offset) = false
+is_fault Noted = false
+is_fault (Ahead number) = false
 
 -- whether a reply says that a write may be on disk or not
 abbrev pub any_unsure : List Pair → Bool
@@ -74,7 +78,7 @@ faults_behind (group ∷ groups) n = faults_behind groups (if any_fault group th
 abbrev pub IsClosedAt : Bool → Pair → Type 0
 IsClosedAt false pair = pair.reply ≢ Closed
 IsClosedAt true pair = (pair.reply ≡ Closed) ⊎ ((pair.reply ≡ NoMemory)
-    ⊎ IsSome (refusal_of all_classes pair.request))
+    ⊎ (IsSome (refusal_of all_classes pair.request) ⊎ (key_of pair.request ≡ None)))
 
 -- the replies of each group are Closed exactly behind a group with an unsure write
 abbrev pub AreClosedBehind : Bool → List (List Pair) → Type 0
@@ -82,7 +86,11 @@ AreClosedBehind closed [] = ⊤
 AreClosedBehind closed (group ∷ groups) = AllByRecursion (IsClosedAt closed) group
     × AreClosedBehind (closed || any_unsure group) groups
 
--- stamps are spent only where the floor and the number of requests pass the last one
+-- how many of the requests are about keys
+abbrev pub count_keyed : List Pair → ℕ
+count_keyed pairs = length (filter (λ pair. is_some (key_of pair.request)) pairs)
+
+-- stamps are spent only where the floor and the number of requests about keys pass the last one
 abbrev pub IsSpentAt : ℕ → ℕ → Pair → Type 0
 IsSpentAt floor requests pair = (number : ℕ) → pair.reply ≡ StampsSpent number
     → (2 ^ 62 ≤ floor + requests) × (2 ^ 62 ≤ number + 64) × (number ≤ 2 ^ 62)
@@ -106,15 +114,17 @@ pub record HasNoSlot (limit : ℕ) (history : List Write) (class : ℕ) : Type 0
 abbrev pub IsFullAt : ℕ → List Write → Pair → Type 0
 IsFullAt limit history pair = (class : ℕ) → pair.reply ≡ Full class → HasNoSlot limit history class
 
--- the replies are those of one plain map that began with the earlier writes, stamps rise from group to
--- group, and each refusal has its cause
+-- the replies are those of one plain map that began with the earlier writes, stamps rise from group
+-- to group, what is told of the counter is above all that the session has seen, and each refusal
+-- has its cause
 pub record HasAnswers {D : Type 0} (d : Ghosts D) (old new : D) (limit : ℕ) (before : List Write)
     (floor : ℕ) (groups : List (List Pair)) : Type 0 where
   pub agrees : AgreesWithMap d.tells all_classes before floor (pairs_in groups)
   pub ordered : RespectsOrder groups
+  pub counter : TellsCounter floor groups
   pub closes : AreClosedBehind false groups
   pub faults : d.faults new ≡ faults_behind groups (d.faults old)
-  pub spent : AllByRecursion (IsSpentAt floor (length (pairs_in groups))) (pairs_in groups)
+  pub spent : AllByRecursion (IsSpentAt floor (count_keyed (pairs_in groups))) (pairs_in groups)
   pub full : IsTrue d.tells → AllByRecursion (IsFullAt limit (before ++ writes (pairs_in groups)
       ++ unsure_writes (pairs_in groups))) (pairs_in groups)
 

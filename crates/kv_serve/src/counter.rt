@@ -1,4 +1,7 @@
 ghost use Rattle.std.specs.Prelude.{◌≡◌, ◌⊎◌, ◌+◌, ◌^◌, ◌<◌, ◌≤◌, IfOk, IfErr, true, false};
+ghost use Rattle.kv_model.specs.Agreement.{counter_reply};
+
+use kv_base::Reply;
 
 /// Stamps are below this.
 const LIMIT: u64 = 1 << 62;
@@ -45,5 +48,16 @@ impl Counter {
         let first = self.next;
         self.next += n;
         Ok(first)
+    }
+    /// The reply to an After of this stamp: `Noted` exactly where it is below the next one, which
+    /// later draws are at least.
+    pub fn reply_to(&self, stamp: u64) -> Reply
+        ensures { result ≡ counter_reply stamp self.now.next }
+    {
+        if stamp < self.next {
+            Reply::Noted
+        } else {
+            Reply::Ahead { number: self.next }
+        }
     }
 }

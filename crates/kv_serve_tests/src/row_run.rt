@@ -37,6 +37,12 @@ pub const DELETE_A: Part = (b"\x02\0\0\0\x03a", 0);
 /// Flush.
 pub const FLUSH: Part = (b"\x01\0\0\0\x05", 0);
 
+/// After 0.
+pub const AFTER_0: Part = (b"\x09\0\0\0\x06\0\0\0\0\0\0\0\0", 0);
+
+/// After 1.
+pub const AFTER_1: Part = (b"\x09\0\0\0\x06\x01\0\0\0\0\0\0\0", 0);
+
 // Frames of replies: length, kind, stamp.
 
 /// Stored at stamp 1.
@@ -62,6 +68,12 @@ pub const MISSING_4: Part = (b"\x09\0\0\0\x83\x04\0\0\0\0\0\0\0", 0);
 
 /// Found at stamp 2 with the value 1.
 pub const FOUND_2_1: Part = (b"\x0A\0\0\0\x82\x02\0\0\0\0\0\0\x001", 0);
+
+/// Noted, which has no stamp.
+pub const NOTED: Part = (b"\x01\0\0\0\x87", 0);
+
+/// Ahead of the number 1.
+pub const AHEAD_1: Part = (b"\x09\0\0\0\xEA\x01\0\0\0\0\0\0\0", 0);
 
 /// TooLarge, which has no stamp.
 pub const TOO_LARGE: Part = (b"\x01\0\0\0\xE2", 0);

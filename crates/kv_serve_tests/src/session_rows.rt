@@ -1,11 +1,12 @@
 use crate::row_run::{
-    A_AT_1, BLANK, Case, DELETE_A, FLUSH, FOUND_2_1, GET_A, GET_B, GET_K, HEAD, MISSING_1,
-    MISSING_2, MISSING_4, PUT_A_1, Run, STORED_1, STORED_2, STORED_3, is_so,
+    A_AT_1, AFTER_0, AFTER_1, AHEAD_1, BLANK, Case, DELETE_A, FLUSH, FOUND_2_1, GET_A, GET_B,
+    GET_K, HEAD, MISSING_1, MISSING_2, MISSING_4, NOTED, PUT_A_1, Run, STORED_1, STORED_2,
+    STORED_3, is_so,
 };
 use kv_base::Cause;
 use std::test::Fail;
 
-static CASES: [Case; 11] = [
+static CASES: [Case; 13] = [
     Case {
         name: "an empty input",
         pages: &[],
@@ -136,6 +137,28 @@ static CASES: [Case; 11] = [
             cause: Cause::End,
             choice: &[],
             pages: &[HEAD],
+        }],
+    },
+    Case {
+        name: "the first stamp is 1",
+        pages: &[],
+        runs: &[Run {
+            input: &[AFTER_0, AFTER_1],
+            output: &[NOTED, AHEAD_1],
+            cause: Cause::End,
+            choice: &[],
+            pages: &[HEAD, BLANK],
+        }],
+    },
+    Case {
+        name: "an After ends the group before it",
+        pages: &[],
+        runs: &[Run {
+            input: &[PUT_A_1, AFTER_1, GET_A],
+            output: &[STORED_1, NOTED, FOUND_2_1],
+            cause: Cause::End,
+            choice: &[],
+            pages: &[HEAD, A_AT_1],
         }],
     },
     Case {

@@ -13,20 +13,21 @@ use Rattle.kv_base.specs.Stream.{Passes, IsSpent, Takes}
 use Rattle.kv_base.proofs.StreamLemmas.{Takes-trans}
 use Rattle.kv_model.specs.BatchLaws.{pairs_of}
 use Rattle.kv_model.specs.Frames.{HasReplyFrame, BeginsWithRequests}
-use Rattle.kv_model.specs.Groups.{with_group, last_group, groups_of}
+use Rattle.kv_model.specs.Groups.{with_group, last_group, groups_of, all_groups}
 use Rattle.kv_model.specs.Pairs.{Pair, requests_of, replies_in}
 use Rattle.kv_model.specs.Transcript.{GoesOut, HasTranscript}
 use Rattle.kv_model.proofs.PairwiseLemmas.{All-append}
 use Rattle.kv_session.specs.Outgoing.{replies_behind, cause_behind}
 use Rattle.kv_session.specs.Session.{SessionState, KeepsReading}
 use Rattle.kv_session.specs.Passage.{Streams, source_faults_at, sink_faults_for, HasSourceCount}
-use Rattle.kv_session.specs.Passage.{with_pairs, IsLastGroup, HasRead, HasEnded, Follows, Delivers}
+use Rattle.kv_session.specs.Passage.{with_pairs, rest_of, IsLastGroup, HasRead, HasEnded, Follows}
+use Rattle.kv_session.specs.Passage.{Delivers}
 use Rattle.kv_session.proofs.OutgoingLemmas.{HaveGone-goes, gone_whole}
 use Rattle.kv_session.proofs.PassageLemmas.{requests_of-pairs_of, replies_of-pairs_of}
 use Rattle.kv_session.proofs.PassageLemmas.{requests-with_pairs, replies-with_pairs, EndsAs}
 use Rattle.kv_session.proofs.PassageLemmas.{last_group-with_group, closing_told, Closes-read}
 use Rattle.kv_session.proofs.PassageLemmas.{Leaves-none, source_counted-read, sink_counted-read}
-use Rattle.kv_session.proofs.PassageLemmas.{source_counted-any}
+use Rattle.kv_session.proofs.PassageLemmas.{source_counted-any, all-ended, all-answered}
 
 module _ {So Si : Type 0} (streams : Streams So Si) (source : So) (sink : Si)
     (groups : List (List Pair)) (asked : List Request) (replies : List Reply)
@@ -81,21 +82,33 @@ module _ {So Si : Type 0} (streams : Streams So Si) (source : So) (sink : Si)
   spent over = subst (λ (s : So). IsSpent (streams.stream s)) (sym kept.source)
       (read.spent (sym kept.ended ∙ over))
 
-  fronts : BeginsWithRequests read.bytes read.handled new.waiting
-  fronts = subst (λ (rest : List ℕ). BeginsWithRequests read.bytes read.handled rest)
-      (sym kept.waiting) read.fronts
+  abbrev rest : List ℕ
+  rest = rest_of new.after new.waiting
+
+  fronts : BeginsWithRequests read.bytes read.handled rest
+  fronts = subst (λ (after : Option ℕ). BeginsWithRequests read.bytes read.handled (rest_of after
+      new.waiting)) (sym kept.after)
+      (subst (λ (waiting : List ℕ). BeginsWithRequests read.bytes read.handled (rest_of old.after
+      waiting)) (sym kept.waiting) read.fronts)
+
+  -- where no After comes next
+  fronts_all : new.after ≡ None → BeginsWithRequests read.bytes read.handled new.waiting
+  fronts_all none = subst (λ (after : Option ℕ). BeginsWithRequests read.bytes read.handled (rest_of
+      after new.waiting)) none fronts
 
   -- the last group, where reading ended so
   last : (closing : Option Cause) → old.closing ≡ closing
-      → IsLastGroup closing read.bytes new.waiting new.ended (groups_of read.handled)
+      → IsLastGroup closing new.after read.bytes new.waiting new.ended (groups_of read.handled)
       (map requests_of groups) asked
   last closing is =
-      subst (λ (ended : Bool). IsLastGroup closing read.bytes new.waiting ended
+      subst (λ (ended : Bool). IsLastGroup closing new.after read.bytes new.waiting ended
       (groups_of read.handled) (map requests_of groups) asked) (sym kept.ended)
-      (subst (λ (rest : List ℕ). IsLastGroup closing read.bytes rest old.ended
+      (subst (λ (rest : List ℕ). IsLastGroup closing new.after read.bytes rest old.ended
       (groups_of read.handled) (map requests_of groups) asked) (sym kept.waiting)
-      (subst (λ (closing : Option Cause). IsLastGroup closing read.bytes old.waiting old.ended
-      (groups_of read.handled) (map requests_of groups) asked) is read.last))
+      (subst (λ (after : Option ℕ). IsLastGroup closing after read.bytes old.waiting old.ended
+      (groups_of read.handled) (map requests_of groups) asked) (sym kept.after)
+      (subst (λ (closing : Option Cause). IsLastGroup closing old.after read.bytes old.waiting
+      old.ended (groups_of read.handled) (map requests_of groups) asked) is read.last)))
 
   source_counted : (closing : Option Cause) → old.closing ≡ closing
       → streams.source_faults new.source ≡ source_faults_at closing (streams.source_faults source)
@@ -127,9 +140,11 @@ module _ {So Si : Type 0} (streams : Streams So Si) (source : So) (sink : Si)
         counted = counted;
         spent = spent;
         fronts = fronts;
-        last = subst (λ (closing : Option Cause). IsLastGroup closing read.bytes new.waiting
-            new.ended (groups_of read.handled) (map requests_of answered) [])
-            (sym (kept.closing ∙ none)) (at.0 ∙ sym grouped, at.1);
+        last = subst (λ (closing : Option Cause). IsLastGroup closing new.after read.bytes
+            new.waiting new.ended (groups_of read.handled) (map requests_of answered) [])
+            (sym (kept.closing ∙ none))
+            (all-answered new.after (groups_of read.handled) (map requests_of groups)
+            (map requests_of answered) asked grouped at);
         framed = subst (λ (rs : List Reply). AllByRecursion HasReplyFrame rs)
             (ap (λ (rs : List Reply). replies_in answered ++ rs) silent
             ∙ append-nil (replies_in answered)) framed;
@@ -192,7 +207,7 @@ module _ {So Si : Type 0} (streams : Streams So Si) (source : So) (sink : Si)
         handled = read.handled;
         rest = new.waiting;
         closing = at.2.0;
-        fronts = fronts;
+        fronts = fronts_all at.3;
         grouped = grouped ∙ ap (λ (gs : List (List Request)). with_group gs asked) (sym at.0)
             ∙ ap (λ (rs : List Request). with_group now.ended rs) (sym at.1);
         framed = subst (λ (rs : List Reply). AllByRecursion HasReplyFrame (replies_in answered
@@ -214,25 +229,24 @@ module _ {So Si : Type 0} (streams : Streams So Si) (source : So) (sink : Si)
       → EndsAs (Some SinkFault) left new.taken new.ending
       → HasEnded streams source sink answered SinkFault new
   failed None is some fault ends =
-      let at = last None is in
       let now = groups_of read.handled in
+      let at = all-ended new.after new.waiting now (map requests_of groups) asked (last None is) in
       let silent : replies_behind old.closing ≡ [] =
       ap (λ (closing : Option Cause). replies_behind closing) is in
       let few_left : length left ≤ length asked =
       omega (arith, few, each, ap (λ (rs : List Reply). length rs) silent) in
-      let last_is : last_group now.ended ≡ asked =
-      ap (λ (gs : List (List Request)). last_group gs) at.0
+      let last_is : last_group (all_groups now) ≡ asked =
+      ap (λ (gs : List (List Request)). last_group gs) at.1
       ∙ last_group-with_group (map requests_of groups) asked (omega (arith, some, few_left)) in
       ended_by SinkFault ends (record {
         handled = read.handled;
-        rest = new.waiting;
+        rest = rest;
         closing = replies_behind old.closing;
         fronts = fronts;
-        grouped = grouped ∙ sym at.0
-            ∙ ap (λ (rs : List Request). with_group now.ended rs) (sym at.1);
+        grouped = grouped ∙ sym at.1;
         framed = framed;
         closes = inl (record {
-          whole = at.1;
+          whole = at.0;
           nothing = silent;
           most = omega (arith, few_left, ap (λ (rs : List Request). length rs) last_is);
         });
@@ -249,7 +263,7 @@ module _ {So Si : Type 0} (streams : Streams So Si) (source : So) (sink : Si)
         handled = read.handled;
         rest = new.waiting;
         closing = at.2.0;
-        fronts = fronts;
+        fronts = fronts_all at.3;
         grouped = grouped ∙ ap (λ (gs : List (List Request)). with_group gs asked) (sym at.0)
             ∙ ap (λ (rs : List Request). with_group now.ended rs) (sym at.1);
         framed = subst (λ (rs : List Reply). AllByRecursion HasReplyFrame (replies_in answered

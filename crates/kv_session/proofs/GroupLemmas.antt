@@ -1,13 +1,14 @@
 -- Lemmas on a group of requests that is read.
 use Rattle.std.proofs.Common.{◌≡◌, ℕ, ◌+◌, ◌<◌, ◌≤◌, true, false, List, [], ◌∷◌, ◌++◌}
-use Rattle.std.proofs.Common.{length, fold, eqb, Option, None, Some, ◌^◌, refl, sym, ap, subst}
+use Rattle.std.proofs.Common.{length, fold, eqb, Option, None, Some, IsSome, ◌^◌, refl, sym, ap}
+use Rattle.std.proofs.Common.{subst}
 use Rattle.std.proofs.Common.{◌∙◌, arith, append_assoc, length-append}
 use Rattle.std.specs.List.{flat_map}
-use Rattle.std.proofs.lemmas.Bool.{ne_eqb, cond-false, false≢true}
+use Rattle.std.proofs.lemmas.Bool.{ne_eqb, eq-eqb, cond-true, cond-false, true≢false}
 use Rattle.std.proofs.lemmas.Grind.{flat_map-append, fold-append}
 use Rattle.std.proofs.lemmas.List.{append-nil}
 use Rattle.kv_base.specs.declared.request.Request.{Request}
-use Rattle.kv_base.specs.declared.request.Request.TheVariants.{Put, Get, Delete, Flush}
+use Rattle.kv_base.specs.declared.request.Request.TheVariants.{Put, Get, Delete, Flush, After}
 use Rattle.kv_base.specs.declared.cause.Cause.{Cause}
 use Rattle.kv_base.specs.Reserved.{Reserved}
 use Rattle.kv_base.specs.Stream.{Stream, Passes, IsSpent}
@@ -15,13 +16,16 @@ use Rattle.kv_base.proofs.StreamLemmas.{Passes-nil, Passes-trans}
 use Rattle.kv_model.specs.Frames.{HasRequestFrame, request_frame, BeginsWithRequest}
 use Rattle.kv_model.specs.Frames.{BeginsWithRequests}
 use Rattle.kv_model.specs.Groups.{Groups, with_group, end_group, end_full, with_request}
-use Rattle.kv_model.specs.Groups.{next_groups, has_reply}
+use Rattle.kv_model.specs.Groups.{next_groups}
+use Rattle.kv_model.specs.Pairs.{key_of}
 use Rattle.kv_model.proofs.PairwiseLemmas.{All-append}
 use Rattle.kv_ring.specs.declared.task.Task.{Task}
 use Rattle.kv_session.specs.Reading.{ReaderState, Arrives}
 use Rattle.kv_session.specs.Tasks.{AreTaken}
 use Rattle.kv_session.specs.Group.{IsTaken, UsesUp, Appends, ReadsRequests, ended_groups}
 use Rattle.kv_session.specs.Group.{ReadsGroup}
+use Rattle.kv_session.specs.declared.gathered.Gathered.TheVariants.{More, After as AfterOf}
+use Rattle.kv_session.specs.declared.gathered.Gathered.TheVariants.{Ending as EndingOf}
 
 -- ---- tasks
 
@@ -57,21 +61,14 @@ end_full-short groups asked short =
     cond-false (eqb (length asked) 64) (end_group (groups_with groups asked))
     (groups_with groups asked) (ne_eqb (length asked) 64 (λ is. absurd (omega (arith, is, short))))
 
--- a request with a reply stands in the current group
-next_groups-replied : (groups : Groups) (request : Request) → has_reply request ≡ true
+-- a request about a key stands in the current group
+next_groups-keyed : (groups : Groups) (request : Request) → IsSome (key_of request)
     → next_groups groups request ≡ with_request groups request
-next_groups-replied groups (Put key value) replied = refl
-next_groups-replied groups (Get key) replied = refl
-next_groups-replied groups (Delete key) replied = refl
-next_groups-replied groups Flush replied = absurd (false≢true replied)
-
--- a request without one ends it
-next_groups-flush : (groups : Groups) (request : Request) → has_reply request ≡ false
-    → next_groups groups request ≡ end_group groups
-next_groups-flush groups (Put key value) none = absurd (false≢true (sym none))
-next_groups-flush groups (Get key) none = absurd (false≢true (sym none))
-next_groups-flush groups (Delete key) none = absurd (false≢true (sym none))
-next_groups-flush groups Flush none = refl
+next_groups-keyed groups (Put key value) keyed = refl
+next_groups-keyed groups (Get key) keyed = refl
+next_groups-keyed groups (Delete key) keyed = refl
+next_groups-keyed groups Flush keyed = absurd (true≢false (sym keyed))
+next_groups-keyed groups (After stamp) keyed = absurd (true≢false (sym keyed))
 
 -- behind these requests the current group has just these, and has ended where it is full
 abbrev pub Gathers : List Request → Type 0
@@ -86,21 +83,19 @@ gathers-short asked gathers short groups = gathers groups ∙ end_full-short gro
 
 -- one request more of a group that isn't full
 pub Gathers-more : (asked : List Request) (request : Request) → Gathers asked → length asked < 64
-    → has_reply request ≡ true → Gathers (asked ++ request ∷ [])
-Gathers-more asked request gathers short replied groups =
+    → IsSome (key_of request) → Gathers (asked ++ request ∷ [])
+Gathers-more asked request gathers short keyed groups =
     fold-append next_groups (ended_groups groups) asked (request ∷ [])
     ∙ ap (λ (now : Groups). next_groups now request) (gathers-short asked gathers short groups)
-    ∙ next_groups-replied (groups_with groups asked) request replied
+    ∙ next_groups-keyed (groups_with groups asked) request keyed
 
 -- a Flush ends the group
-pub Gathers-flush : (asked : List Request) (request : Request) → Gathers asked → length asked < 64
-    → has_reply request ≡ false → (groups : List (List Request))
-    → fold next_groups (ended_groups groups) (asked ++ request ∷ [])
+pub Gathers-flush : (asked : List Request) → Gathers asked → length asked < 64
+    → (groups : List (List Request)) → fold next_groups (ended_groups groups) (asked ++ Flush ∷ [])
     ≡ ended_groups (with_group groups asked)
-Gathers-flush asked request gathers short none groups =
-    fold-append next_groups (ended_groups groups) asked (request ∷ [])
-    ∙ ap (λ (now : Groups). next_groups now request) (gathers-short asked gathers short groups)
-    ∙ next_groups-flush (groups_with groups asked) request none
+Gathers-flush asked gathers short groups =
+    fold-append next_groups (ended_groups groups) asked (Flush ∷ [])
+    ∙ ap (λ (now : Groups). next_groups now Flush) (gathers-short asked gathers short groups)
 
 -- ---- bytes
 
@@ -120,7 +115,7 @@ BeginsWithRequests-append bytes more requests others rest behind p q =
     }
 
 -- one request's frame begins the bytes
-BeginsWithRequests-one : (bytes : List ℕ) (request : Request) (rest : List ℕ)
+pub BeginsWithRequests-one : (bytes : List ℕ) (request : Request) (rest : List ℕ)
     → BeginsWithRequest bytes request rest → BeginsWithRequests (bytes ++ []) (request ∷ []) rest
 BeginsWithRequests-one bytes request rest p = record {
   parts = append-nil bytes ∙ p.parts
@@ -232,21 +227,38 @@ module _ {So : Type 0} (stream : So → Option Stream) (faults : So → ℕ)
     (came : Arrives (stream now.source) (stream filled.source) now.waiting filled.waiting now.taken
     filled.taken) where
   -- reading ended within the group
-  pub gathers-over : (cause : Cause) → ReadsGroup stream old filled (Some cause) p.asked
+  pub gathers-over : (cause : Cause)
+      → ReadsGroup stream old filled (EndingOf cause) p.asked
   gathers-over cause = record {
     requests = p.asked;
+    between = filled;
     reads = ReadsRequests-arrives stream old now filled p.asked p.reads came;
+    last = refl;
     grouped = gathers-short p.asked p.gathers (omega (arith, p.counted, short));
   }
 
   -- a Flush ended it
-  pub gathers-flush : (request : Request) → UsesUp filled used request → has_reply request ≡ false
-      → ReadsGroup stream old used None p.asked
-  gathers-flush request uses none = record {
-    requests = p.asked ++ request ∷ [];
-    reads = ReadsRequests-more stream old filled used p.asked request
-        (ReadsRequests-arrives stream old now filled p.asked p.reads came) uses;
-    grouped = Gathers-flush p.asked request p.gathers (omega (arith, p.counted, short)) none;
+  pub gathers-flush : (request : Request) → UsesUp filled used request → request ≡ Flush
+      → ReadsGroup stream old used More p.asked
+  gathers-flush request uses is = record {
+    requests = p.asked ++ Flush ∷ [];
+    between = used;
+    reads = ReadsRequests-more stream old filled used p.asked Flush
+        (ReadsRequests-arrives stream old now filled p.asked p.reads came)
+        (subst (λ (r : Request). UsesUp filled used r) is uses);
+    last = refl;
+    grouped = Gathers-flush p.asked p.gathers (omega (arith, p.counted, short));
+  }
+
+  -- an After ended it
+  pub gathers-after : (stamp : ℕ) (request : Request) → UsesUp filled used request
+      → request ≡ After stamp → ReadsGroup stream old used (AfterOf stamp) p.asked
+  gathers-after stamp request uses is = record {
+    requests = p.asked;
+    between = filled;
+    reads = ReadsRequests-arrives stream old now filled p.asked p.reads came;
+    last = subst (λ (r : Request). UsesUp filled used r) is uses;
+    grouped = gathers-short p.asked p.gathers (omega (arith, p.counted, short));
   }
 
   -- and so it has bytes
@@ -270,7 +282,7 @@ module _ {So : Type 0} (stream : So → Option Stream) (faults : So → ℕ)
         (sym appends.behind) (AreTaken-more p.asked after.items request task p.taken is);
     reads = ReadsRequests-more stream old filled used p.asked request
         (ReadsRequests-arrives stream old now filled p.asked p.reads came) uses;
-    gathers = Gathers-more p.asked request p.gathers (omega (arith, p.counted, short)) is.replied;
+    gathers = Gathers-more p.asked request p.gathers (omega (arith, p.counted, short)) is.keyed;
     calm = ap faults uses.source ∙ calm ∙ p.calm;
     spare = omega (arith, appends.spare, p.spare);
     known = λ some. (
@@ -279,6 +291,21 @@ module _ {So : Type 0} (stream : So → Option Stream) (faults : So → ℕ)
       omega (arith, uses.taken, limit),
     );
   }
+
+-- so many requests are a whole group
+pub gathers-whole : {So : Type 0} (stream : So → Option Stream) (faults : So → ℕ)
+    (old now : ReaderState So) (before after : Reserved Task) (count : ℕ)
+    (p : GathersUpTo stream faults old now before after count) → count ≡ 64
+    → ReadsGroup stream old now More p.asked
+gathers-whole stream faults old now before after count p full = record {
+  requests = p.asked;
+  between = now;
+  reads = p.reads;
+  last = refl;
+  grouped = λ groups. p.gathers groups
+      ∙ cond-true (eqb (length p.asked) 64) (end_group (groups_with groups p.asked))
+      (groups_with groups p.asked) (eq-eqb (length p.asked) 64 (p.counted ∙ full));
+}
 
 -- so many requests have bytes
 pub progress-whole : {So : Type 0} (stream : So → Option Stream) (faults : So → ℕ)

@@ -1,5 +1,5 @@
 -- What a session took and gave, from its first byte on.
-use Rattle.std.specs.Prelude.{◌≡◌, ◌⊎◌, ℕ, List, [], ◌∷◌, ◌++◌, length, map, Option}
+use Rattle.std.specs.Prelude.{◌≡◌, ◌⊎◌, ◌<◌, ◌^◌, ℕ, List, [], ◌∷◌, ◌++◌, length, map, Option}
 use Rattle.std.specs.Prelude.{None, Some, Bool, true, false}
 use Rattle.std.specs.List.{AllByRecursion, flat_map}
 use Rattle.kv_base.specs.Calls.{next_count}
@@ -9,8 +9,9 @@ use Rattle.kv_base.specs.declared.cause.Cause.TheVariants.{End, Malformed, Limit
 use Rattle.kv_base.specs.declared.cause.Cause.TheVariants.{SinkFault}
 use Rattle.kv_base.specs.declared.reply.Reply.{Reply}
 use Rattle.kv_base.specs.declared.request.Request.{Request}
-use Rattle.kv_model.specs.Frames.{HasReplyFrame, reply_frame, BeginsWithRequests}
-use Rattle.kv_model.specs.Groups.{Groups, groups_of, with_group}
+use Rattle.kv_base.specs.declared.request.Request.TheVariants.{After}
+use Rattle.kv_model.specs.Frames.{HasReplyFrame, request_frame, reply_frame, BeginsWithRequests}
+use Rattle.kv_model.specs.Groups.{Groups, groups_of, with_group, all_groups}
 use Rattle.kv_model.specs.Pairs.{Pair, requests_of, replies_in}
 use Rattle.kv_model.specs.Transcript.{EndsReading, HasTranscript}
 use Rattle.kv_session.specs.Session.{SessionState}
@@ -58,14 +59,26 @@ abbrev pub with_pairs : List (List Pair) → List Pair → List (List Pair)
 with_pairs groups [] = groups
 with_pairs groups (pair ∷ pairs) = groups ++ (pair ∷ pairs) ∷ []
 
+-- the bytes that aren't handled: an After that was used up, if there is one, and those that wait
+abbrev pub rest_of : Option ℕ → List ℕ → List ℕ
+rest_of None waiting = waiting
+rest_of (Some stamp) waiting = request_frame (After stamp) ++ waiting
+
+-- these groups and then that of these requests have ended: all of them by what was handled, or the
+-- last one because an After comes next
+abbrev pub AllEnded : Option ℕ → Groups → List (List Request) → List Request → Type 0
+AllEnded None now groups asked = (now.ended ≡ with_group groups asked) × (now.current ≡ [])
+AllEnded (Some stamp) now groups asked = (stamp < 2 ^ 64)
+    × (all_groups now ≡ with_group groups asked)
+
 -- the requests are those of the group that was read last, and it ended while reading goes on; or
 -- reading ended with it, for a cause that the bytes show
-abbrev pub IsLastGroup : Option Cause → List ℕ → List ℕ → Bool → Groups → List (List Request)
-    → List Request → Type 0
-IsLastGroup None bytes rest ended now groups asked = (now.ended ≡ with_group groups asked)
-    × (now.current ≡ [])
-IsLastGroup (Some cause) bytes rest ended now groups asked = (now.ended ≡ groups)
+abbrev pub IsLastGroup : Option Cause → Option ℕ → List ℕ → List ℕ → Bool → Groups
+    → List (List Request) → List Request → Type 0
+IsLastGroup None after bytes rest ended now groups asked = AllEnded after now groups asked
+IsLastGroup (Some cause) after bytes rest ended now groups asked = (now.ended ≡ groups)
     × (now.current ≡ asked) × ((closing : List Reply) × EndsReading cause bytes rest ended closing)
+    × (after ≡ None)
 
 -- a session that goes on: what it took since it began with this source and sink; the groups that it
 -- answered, whose replies went out whole; and the requests of the group that it read last and that
@@ -79,8 +92,8 @@ pub record HasRead {So Si : Type 0} (streams : Streams So Si) (source : So) (sin
   pub took : Takes (streams.held sink) (streams.held now.sink) given
   pub counted : now.taken ≡ length bytes
   pub spent : now.ended ≡ true → IsSpent (streams.stream now.source)
-  pub fronts : BeginsWithRequests bytes handled now.waiting
-  pub last : IsLastGroup now.closing bytes now.waiting now.ended (groups_of handled)
+  pub fronts : BeginsWithRequests bytes handled (rest_of now.after now.waiting)
+  pub last : IsLastGroup now.closing now.after bytes now.waiting now.ended (groups_of handled)
       (map requests_of groups) asked
   pub framed : AllByRecursion HasReplyFrame (replies_in groups)
   pub out : given ≡ flat_map reply_frame (replies_in groups)

@@ -1,5 +1,5 @@
 -- A group's tasks: requests that go to workers, and requests that the session answers itself.
-use Rattle.std.specs.Prelude.{◌≡◌, ◌⊎◌, List, [], ◌∷◌, map, None, Some, MatchOption, ⊤}
+use Rattle.std.specs.Prelude.{◌≡◌, ◌⊎◌, List, [], ◌∷◌, map, None, Some, MatchOption, IsSome, ⊤}
 use Rattle.kv_base.specs.declared.reply.Reply.{Reply}
 use Rattle.kv_base.specs.declared.reply.Reply.TheVariants.{NoMemory}
 use Rattle.kv_base.specs.declared.request.Request.{Request}
@@ -7,6 +7,7 @@ use Rattle.kv_base.specs.declared.request.Request.TheVariants.{Flush}
 use Rattle.kv_model.specs.Agreement.{refusal_of}
 use Rattle.kv_model.specs.Batch.{IsTask}
 use Rattle.kv_model.specs.Layout.{all_classes}
+use Rattle.kv_model.specs.Pairs.{key_of}
 use Rattle.kv_ring.specs.declared.task.Task.{Task}
 
 -- the request has good sizes and goes to a worker
@@ -15,9 +16,10 @@ pub record GoesOn (request : Request) (task : Task) : Type 0 where
   pub request_is : task.request ≡ request
   pub waits : task.reply ≡ None
 
--- the session answers the request itself, by the refusal that its sizes demand, or for want of
--- memory for a copy; the task then has no bytes of it
+-- the session answers the request, which is about a key, itself: by the refusal that its sizes
+-- demand, or for want of memory for a copy; the task then has no bytes of it
 pub record IsRefused (request : Request) (task : Task) : Type 0 where
+  pub keyed : IsSome (key_of request)
   pub reply : Reply
   pub cause : MatchOption (refusal_of all_classes request) (reply ≡ NoMemory)
       (λ refusal. reply ≡ refusal)

@@ -33,7 +33,7 @@ pub fn refusal(view: &RequestView<'_>) -> Option<Reply>
                 Some(Reply::BadKey)
             }
         }
-        RequestView::Flush => None,
+        RequestView::Flush | RequestView::After { .. } => None,
     }
 }
 

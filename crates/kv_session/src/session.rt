@@ -1,13 +1,15 @@
 ghost use Rattle.std.specs.Prelude.{◌≡◌, ◌≤◌, ◌<◌, ◌+◌, ◌^◌, ℕ, List, [], None, Some, true, length};
-ghost use Rattle.std.specs.Prelude.{◌↔◌, IfOk, IfErr};
+ghost use Rattle.std.specs.Prelude.{◌↔◌, ◌∷◌, IfOk, IfErr, IfSome};
 ghost use Rattle.std.specs.List.{AllByRecursion};
 ghost use Rattle.kv_base.specs.declared.reply.Reply.{Reply as ReplyOf};
 ghost use Rattle.kv_base.specs.declared.request.Request.{Request as RequestOf};
+ghost use Rattle.kv_base.specs.declared.request.Request.TheVariants.{After};
 ghost use Rattle.kv_model.specs.BatchLaws.{pairs_of};
 ghost use Rattle.kv_model.specs.Frames.{HasReplyFrame};
 ghost use Rattle.kv_model.specs.Pairs.{Pair};
-ghost use Rattle.kv_session.specs.Session.{IsNew, EndsGroup, KeepsReading};
+ghost use Rattle.kv_session.specs.Session.{IsNew, EndsGroup, KeepsReading, after_taken};
 ghost use Rattle.kv_session.specs.Tasks.{AreTaken, HaveReplies};
+ghost use Rattle.kv_session.specs.Group.{closing_of, after_of};
 ghost use Rattle.kv_session.specs.Outgoing.{cause_behind};
 ghost use Rattle.kv_session.specs.Passage.{Streams, HasRead, Delivers, with_pairs};
 
@@ -30,6 +32,7 @@ pub struct Session<So: Source, Si: Sink> {
     sink: Si,
     outbox: Outbox,
     closing: Option<Cause>,
+    after: Option<u64>,
     ending: Option<Ending>,
 }
 
@@ -46,6 +49,7 @@ impl<So: Source, Si: Sink> Model for Session<So, Si> {
       taken = s.reader.taken;
       ended = s.reader.ended;
       closing = s.closing;
+      after = s.after;
       ending = s.ending;
     } };
 
@@ -76,6 +80,7 @@ impl<So: Source + Drop, Si: Sink + Drop> Session<So, Si> {
                 sink,
                 outbox,
                 closing: None,
+                after: None,
                 ending: None,
             }),
             Err((source, NoMemory)) => Err((source, sink, NoMemory)),
@@ -83,14 +88,17 @@ impl<So: Source + Drop, Si: Sink + Drop> Session<So, Si> {
     }
 
     /// Reads a group: its requests of good sizes, each copied, and the replies to the others. It
-    /// has 64 requests at most, and a Flush ends it, which is used up. `tasks` is empty and has
-    /// room for them.
+    /// has 64 requests at most, and a Flush or an After ends it, which is used up. Behind the
+    /// replies to the group `take_after` gives that After, which is the next group. `tasks` is
+    /// empty and has room for them.
     pub fn gather(&mut self, tasks: &mut Tasks) -> Gathered
         requires empty { tasks.old.items ≡ [] }
         requires room { 64 ≤ tasks.old.spare }
         requires reads { self.old.closing ≡ None }
+        requires told { self.old.after ≡ None }
         requires goes_on { self.old.ending ≡ None }
         ensures ends { EndsGroup result self.new.closing }
+        ensures after { self.new.after ≡ after_of result }
         ensures most { length tasks.new.items ≤ 64 }
         ensures spare { tasks.new.spare + length tasks.new.items ≡ tasks.old.spare }
         ensures gathered { let streams : Streams So Si = record {
@@ -106,20 +114,44 @@ impl<So: Source + Drop, Si: Sink + Drop> Session<So, Si> {
         ensures goes_on { self.new.ending ≡ None }
 
         // a group uses up bytes, of which no more than 2^40 come
-        ensures progress { result ≡ Gathered.More → length self.new.waiting + self.old.taken
+        ensures progress { closing_of result ≡ None → length self.new.waiting + self.old.taken
             < length self.old.waiting + self.new.taken }
         ensures limit { self.new.taken ≤ 2 ^ 40 }
     {
         match read_group(&mut self.reader, self.alloc, tasks) {
-            None => Gathered::More,
-            Some(cause) => {
+            Gathered::More => Gathered::More,
+            Gathered::After { stamp } => {
+                self.after = Some(stamp);
+                Gathered::After { stamp }
+            }
+            Gathered::Ending { cause } => {
                 self.closing = Some(cause);
                 Gathered::Ending { cause }
             }
         }
     }
 
-    /// Writes the replies to the group that was read last, and behind them, where that has ended
+    /// The stamp of the After that ended the group whose replies were written last, if one did.
+    /// That After is then the group that has no reply yet: the next call of `deliver` writes its
+    /// reply.
+    pub fn take_after(&mut self) -> Option<u64>
+        ensures value { result ≡ self.old.after }
+        ensures asks { let streams : Streams So Si = record {
+          stream = So.stream;
+          source_faults = So.faults;
+          held = Si.held;
+          sink_faults = Si.faults;
+        } in IfSome result (λ stamp. (source : So) (sink : Si) (groups : List (List Pair))
+            → HasRead streams source sink groups [] self.old
+            → HasRead streams source sink groups (After stamp ∷ []) self.new) }
+        ensures kept { self.new ≡ after_taken self.old }
+    {
+        let after = self.after;
+        self.after = None;
+        after
+    }
+
+    /// Writes the replies to the group that has none yet, and behind them, where that has ended
     /// the session as malformed, the reply that says so. They are handed on: the list is empty
     /// then. The answer is whether all went out whole; the sink's count of faults shows where not,
     /// the session has ended, and its ending has what is left. Takes no memory.

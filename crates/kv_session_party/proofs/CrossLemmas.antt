@@ -35,8 +35,11 @@ module _ (So Si F : RattleType) (g : sources.Ghosts So.Denot) (h : sinks.Ghosts 
                 (
                   search sendable,
                   (
-                    seats.the_send,
-                    (search (sendable, crosses), tt),
+                    search sendable,
+                    (
+                      seats.the_send,
+                      (search (sendable, crosses), tt),
+                    ),
                   ),
                 ),
               ),

@@ -1,5 +1,5 @@
 -- Which answers a session hears.
-use Rattle.std.proofs.Common.{◌≡◌, ◌⊎◌, inl, inr, ℕ, ◌≤◌, List, [], ◌∷◌, ◌++◌, length, refl, ap}
+use Rattle.std.proofs.Common.{◌≡◌, inl, inr, ◌≤◌, List, [], ◌∷◌, ◌++◌, length, refl, ap}
 use Rattle.std.proofs.Common.{arith}
 use Rattle.kv_ring.specs.declared.message.Answer.{Answer}
 use Rattle.kv_ring.specs.declared.message.Ask.{Ask}

@@ -12,6 +12,9 @@ pub mod MergedLemmas
 pub mod TaleLemmas
 pub mod SeenLemmas
 pub mod KeyedLemmas
+pub mod SeenPushLemmas
+pub mod LookLemmas
+pub mod ShareLemmas
 pub mod TakenLemmas
 pub mod AnsweredLemmas
 pub mod PartyLemmas

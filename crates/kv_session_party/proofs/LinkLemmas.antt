@@ -1,14 +1,13 @@
 -- Lemmas on the messages that wait for a place in a ring.
-use Rattle.std.proofs.Common.{◌≡◌, ◌≢◌, ◌⊎◌, ⊎_elim, ℕ, zero, suc, ◌+◌, ◌<◌, ◌≤◌, List, [], ◌∷◌}
+use Rattle.std.proofs.Common.{◌≡◌, ◌≢◌, ⊎_elim, ℕ, zero, suc, ◌+◌, ◌<◌, ◌≤◌, List, [], ◌∷◌}
 use Rattle.std.proofs.Common.{◌++◌}
-use Rattle.std.proofs.Common.{length, set, get_or, drop, Option, None, Some, Bool, true, false}
+use Rattle.std.proofs.Common.{length, set, get_or, Option, None, Some, Bool, true, false}
 use Rattle.std.proofs.Common.{cond}
-use Rattle.std.proofs.Common.{nat_eq, refl, sym, ap, ◌∙◌, subst, arith}
-use Rattle.std.specs.Prelude.{is_some, ◌||◌, option_to_list}
+use Rattle.std.proofs.Common.{refl, sym, ap, ◌∙◌, subst, arith}
+use Rattle.std.specs.Prelude.{◌||◌, option_to_list}
 use Rattle.std.proofs.lemmas.List.{append-nil, length-set, get_or-set_same, get_or-set_other}
-use Rattle.std.proofs.lemmas.List.{get_or_default, get_or_read, get_or_past}
-use Rattle.kv_ring.specs.Ends.{SameRings, sent_to, received_from, known_from, places_to, only_at}
-use Rattle.kv_ring.specs.declared.message.Answer.{Answer}
+use Rattle.std.proofs.lemmas.List.{get_or_read, get_or_past}
+use Rattle.kv_ring.specs.Ends.{SameRings, sent_to, places_to, only_at}
 use Rattle.kv_ring.specs.declared.message.Ask.{Ask}
 use Rattle.kv_ring.specs.declared.message.Ask.TheVariants as ask
 use Rattle.kv_session_party.specs.Links.{any_went, Pushes, told_to, heard_from, coming_from}

@@ -1,8 +1,8 @@
 -- Merging a group's replies, from the last place to the first.
-use Rattle.std.proofs.Common.{◌≡◌, ◌≢◌, ◌⊎◌, ⊎_elim, ℕ, zero, suc, ◌+◌, ◌<◌, ◌≤◌, List, [], ◌∷◌}
+use Rattle.std.proofs.Common.{◌≡◌, ◌≢◌, ⊎_elim, ℕ, suc, ◌+◌, ◌<◌, ◌≤◌, List, [], ◌∷◌}
 use Rattle.std.proofs.Common.{◌++◌}
-use Rattle.std.proofs.Common.{length, map, reverse, Option, None, Some, Bool, true, false, cond}
-use Rattle.std.proofs.Common.{get_or, set, nat_eq, refl, sym, ap, ◌∙◌, subst, subst₂, arith}
+use Rattle.std.proofs.Common.{length, map, reverse, Option, None, Some, true, false, cond}
+use Rattle.std.proofs.Common.{set, nat_eq, refl, sym, ap, ◌∙◌, subst, subst₂, arith}
 use Rattle.std.proofs.Common.{append_assoc, length-append}
 use Rattle.std.specs.Prelude.{IsSome, filter}
 use Rattle.std.specs.List.{AllByRecursion, cons_option}
@@ -18,10 +18,10 @@ use Rattle.kv_model.specs.Pairs.{Pair}
 use Rattle.kv_parties.specs.Messages.{task_pairs}
 use Rattle.kv_ring.specs.declared.task.Task.{Task}
 use Rattle.kv_session_party.specs.Parts.{HasTasks, part_of}
-use Rattle.kv_session_party.specs.Routes.{RoutesState, IsRouted, ArePlaces}
+use Rattle.kv_session_party.specs.Routes.{RoutesState}
 use Rattle.kv_session_party.specs.Parts.{tasks_here, is_away, no_part}
 use Rattle.kv_session_party.specs.Routes.{is_at}
-use Rattle.kv_session_party.specs.Merging.{replies_at, IsOwn, HaveOwn, IsMerged}
+use Rattle.kv_session_party.specs.Merging.{replies_at, HaveOwn, IsMerged}
 use Rattle.kv_session_party.specs.Parts.{replies_in}
 use Rattle.kv_session_party.specs.Merging.{IsKnown, AreAnswered, IsReady, RepliesAt}
 use Rattle.kv_session_party.specs.Parts.{is_bare, HasReply, has_reply, EndsReplied}

@@ -1,10 +1,10 @@
 -- A group whose replies are merged is an exchange more.
-use Rattle.std.proofs.Common.{◌≡◌, ◌⊎◌, inl, inr, ℕ, suc, ◌+◌, ◌<◌, ◌≤◌, ◌^◌, List, [], ◌∷◌, ◌++◌}
+use Rattle.std.proofs.Common.{◌≡◌, ◌⊎◌, inl, inr, ℕ, suc, ◌<◌, ◌≤◌, ◌^◌, List, [], ◌∷◌, ◌++◌}
 use Rattle.std.proofs.Common.{length}
 use Rattle.std.proofs.Common.{map, Option, None, Some, Bool, true, false, cond, nat_eq, refl, sym}
 use Rattle.std.proofs.Common.{ap}
 use Rattle.std.proofs.Common.{◌∙◌, subst, arith}
-use Rattle.std.specs.Prelude.{not, is_some, ◌&&◌, IsSome, MatchOption, filter}
+use Rattle.std.specs.Prelude.{not, is_some, ◌&&◌, IsSome, MatchOption, filter, min}
 use Rattle.std.specs.List.{AllByRecursion, cons_option, filter_map}
 use Rattle.std.proofs.lemmas.Bool.{true≢false, false≢true}
 use Rattle.std.proofs.lemmas.Bool.Decides.{nat_tests}
@@ -14,12 +14,13 @@ use Rattle.kv_base.specs.Partition.{owner_of}
 use Rattle.kv_base.specs.declared.reply.Reply.{Reply}
 use Rattle.kv_base.specs.declared.reply.Reply.TheVariants.{BadKey, TooLarge, NoMemory}
 use Rattle.kv_base.specs.declared.request.Request.{Request}
-use Rattle.kv_base.specs.declared.request.Request.TheVariants.{Put, Get, Delete, Flush}
+use Rattle.kv_base.specs.declared.request.Request.TheVariants.{Put, Get, Delete, Flush, After}
 use Rattle.kv_model.proofs.PairwiseLemmas.{All-append}
 use Rattle.kv_model.specs.Agreement.{refusal_of}
 use Rattle.kv_model.specs.BatchLaws.{pairs_of}
 use Rattle.kv_model.specs.Layout.{all_classes, class_of, is_key_length}
-use Rattle.kv_model.specs.Pairs.{Pair, key_of, stamp_of, stamps}
+use Rattle.kv_model.proofs.CounterLemmas.{IsKeyed, keyed-seen, keyed-numbers}
+use Rattle.kv_model.specs.Pairs.{Pair, key_of, stamp_of, stamps, seen_in}
 use Rattle.kv_parties.specs.Groups.{Asked}
 use Rattle.kv_parties.specs.Messages.{all_asking}
 use Rattle.kv_parties.specs.Sessions.{Handled, Exchange, exchange_pairs, asked_by}
@@ -32,9 +33,8 @@ use Rattle.kv_ring.specs.declared.message.Ask.{Ask}
 use Rattle.kv_ring.specs.declared.task.Task.{Task}
 use Rattle.kv_session.specs.Passage.{with_pairs}
 use Rattle.kv_session.specs.Tasks.{AreTaken, GoesOn, IsRefused}
-use Rattle.kv_parties.specs.Sessions.{IsHandled, HaveSeen, seen_behind, greatest, message_of}
+use Rattle.kv_parties.specs.Sessions.{IsHandled, IsExchange, greatest, message_of}
 use Rattle.kv_parties.specs.Messages.{IsReplied}
-use Rattle.kv_parties.specs.Promises.{SessionPromise}
 use Rattle.kv_session_party.specs.Promise.{Keeps, StandsIn, IsOwed, handled_by}
 use Rattle.kv_session_party.specs.Merging.{IsMerged, HaveOwn}
 use Rattle.kv_session_party.specs.Routes.{RoutesState, ArePlaces, IsPlace}
@@ -46,9 +46,12 @@ use Rattle.kv_session_party.specs.declared.part.Part.{Part}
 use Rattle.kv_session_party.specs.declared.part.Part.TheVariants.{Here, Away}
 use Rattle.kv_session_party.specs.declared.routes.Place.{Place}
 use Rattle.kv_session_party.specs.declared.routes.Place.TheVariants.{Own, Worker}
+use Rattle.kv_session_party.proofs.LookLemmas.{looks-more}
 use Rattle.kv_session_party.proofs.MergeLemmas.{HaveOwn-length, replies-more}
 use Rattle.kv_session_party.proofs.PromiseLemmas.{task-request}
 use Rattle.kv_session_party.proofs.RouteLemmas.{ArePlaces-length}
+use Rattle.kv_session_party.proofs.SeenPushLemmas.{HaveSeen-push, seen-push}
+use Rattle.kv_stamps.specs.declared.view.View.{View}
 
 eq-of : (m n : ℕ) → nat_eq m n ≡ true → m ≡ n
 eq-of m n e = grind (arith, nat_tests)
@@ -190,6 +193,7 @@ refused-has P none bad large (Delete key) reply own =
     by true e = subst P (sym e) none
     by false e = subst P (sym e) bad
 refused-has P none bad large Flush reply own = subst P (sym own) none
+refused-has P none bad large (After stamp) reply own = subst P (sym own) none
 
 some-eq : (one other : Reply) → Some one ≡ Some other → one ≡ other
 some-eq one other e = cc
@@ -279,6 +283,14 @@ AreTaken-length [] (t ∷ tasks) taken = absurd taken
 AreTaken-length (q ∷ asked) [] taken = absurd taken
 AreTaken-length (q ∷ asked) (t ∷ tasks) taken = ap suc (AreTaken-length asked tasks taken.1)
 
+-- pairs of requests about keys are about keys
+keyed-pairs : (asked : List Request) (merged : List Reply)
+    → AllByRecursion (λ request. IsSome (key_of request)) asked
+    → AllByRecursion IsKeyed (pairs_of asked merged)
+keyed-pairs [] merged keyed = tt
+keyed-pairs (q ∷ asked) [] keyed = tt
+keyed-pairs (q ∷ asked) (r ∷ merged) keyed = (keyed.0, keyed-pairs asked merged keyed.1)
+
 stamps-pairs : (asked : List Request) (merged : List Reply) → length merged ≡ length asked
     → stamps (pairs_of asked merged) ≡ filter_map stamp_of merged
 stamps-pairs [] [] size = refl
@@ -287,21 +299,6 @@ stamps-pairs (q ∷ asked) [] size = refl
 stamps-pairs (q ∷ asked) (r ∷ merged) size =
     ap (λ (ns : List ℕ). cons_option (stamp_of r) ns)
     (stamps-pairs asked merged (omega (arith, size)))
-
-HaveSeen-push : (seen : ℕ) (exchanges : List Exchange) (last : Exchange) → HaveSeen seen exchanges
-    → last.seen ≡ seen_behind seen exchanges → HaveSeen seen (exchanges ++ last ∷ [])
-HaveSeen-push seen [] last have is = (is, tt)
-HaveSeen-push seen (e ∷ exchanges) last have is = (
-  have.0,
-  HaveSeen-push (greatest seen (stamps (exchange_pairs e))) exchanges last have.1 is,
-)
-
-seen-push : (seen : ℕ) (exchanges : List Exchange) (last : Exchange)
-    → seen_behind seen (exchanges ++ last ∷ [])
-    ≡ greatest (seen_behind seen exchanges) (stamps (exchange_pairs last))
-seen-push seen [] last = refl
-seen-push seen (e ∷ exchanges) last =
-    seen-push (greatest seen (stamps (exchange_pairs e))) exchanges last
 
 owed-none : {F : Type 0} (part : Part) (messages : List (Ask F)) (heard : List (Answer F))
     → is_away part ≡ false → IsOwed part messages heard → length messages ≤ length heard
@@ -314,7 +311,7 @@ map-none : {X Y : Type 0} (f : X → Y) (xs : List X) → map f xs ≡ [] → xs
 map-none f [] e = refl
 map-none f (x ∷ xs) e = cc
 
-module _ {F : Type 0} (setting : Setting) (sent : ℕ → List (Ask F))
+module _ {F : Type 0} {view : View} (setting : Setting) (sent : ℕ → List (Ask F))
     (received : ℕ → List (Answer F)) (groups : List (List Pair)) (seen high : ℕ)
     (routes after : RoutesState) (asked : List Request) (merged : List Reply)
     (layout : setting.layout ≡ all_classes)
@@ -324,7 +321,7 @@ module _ {F : Type 0} (setting : Setting) (sent : ℕ → List (Ask F))
     (λ worker. replies_in (tasks_here (part_of routes.parts worker))) merged)
     (up : high ≡ greatest seen (filter_map stamp_of merged)) (limit : high < 2 ^ 62)
     (size : length after.parts ≡ length routes.parts)
-    (k : Keeps setting sent received groups seen routes asked true) where
+    (k : Keeps setting sent received groups seen routes asked true view) where
   abbrev n : ℕ
   n = setting.workers
 
@@ -342,8 +339,12 @@ module _ {F : Type 0} (setting : Setting) (sent : ℕ → List (Ask F))
       ∙ ArePlaces-length n k.way.tasks routes.places k.way.places
       ∙ AreTaken-length asked k.way.tasks k.way.taken
 
-  stamps-are : stamps (exchange_pairs exchange) ≡ filter_map stamp_of merged
-  stamps-are = ap stamps pairs-are ∙ stamps-pairs asked merged merged-size
+  pairs-keyed : AllByRecursion IsKeyed (exchange_pairs exchange)
+  pairs-keyed = subst (AllByRecursion IsKeyed) (sym pairs-are) (keyed-pairs asked merged keyed)
+
+  seen-are : seen_in (exchange_pairs exchange) ≡ filter_map stamp_of merged
+  seen-are = keyed-seen (exchange_pairs exchange) pairs-keyed ∙ ap stamps pairs-are
+      ∙ stamps-pairs asked merged merged-size
 
   asks-all : (worker : ℕ) → worker < n
       → k.promise.asks.asking worker ≡ asked_by seen (pairs_for n worker handled)
@@ -374,7 +375,7 @@ module _ {F : Type 0} (setting : Setting) (sent : ℕ → List (Ask F))
 
   -- with the exchange behind the others
   keeps-more : Keeps setting sent received (groups ++ exchange_pairs exchange ∷ []) high after []
-      false
+      false view
   keeps-more = record {
     promise = record {
       taken = k.promise.taken;
@@ -403,11 +404,11 @@ module _ {F : Type 0} (setting : Setting) (sent : ℕ → List (Ask F))
             k.promise.asks.exchanges (exchange ∷ []))
             ∙ sym (append-nil (all_replied n worker (k.promise.asks.exchanges ++ exchange ∷ [])));
         seen = HaveSeen-push 0 k.promise.asks.exchanges exchange k.promise.asks.seen k.seen_is;
-        handled = All-append (λ (e : Exchange). AllByRecursion (IsHandled setting.layout)
-            e.handled) k.promise.asks.exchanges (exchange ∷ []) k.promise.asks.handled (
-              subst (λ l. AllByRecursion (IsHandled l) handled) (sym layout)
+        handled = All-append (IsExchange setting.layout) k.promise.asks.exchanges (exchange ∷ [])
+            k.promise.asks.handled (
+              inl (subst (λ l. AllByRecursion (IsHandled l) handled) (sym layout)
                   (handled-all n asked k.way.tasks routes.places merged keyed k.way.taken k.way.places
-                  m.own),
+                  m.own)),
               tt,
             );
         pending = record {
@@ -416,9 +417,12 @@ module _ {F : Type 0} (setting : Setting) (sent : ℕ → List (Ask F))
           hears = λ worker lt. refl;
         };
       };
+      looks = looks-more view groups k.promise.asks.exchanges (exchange_pairs exchange) exchange
+          k.promise.looks (subst (AllByRecursion (λ number. min view.start (2 ^ 62) ≤ number))
+          (sym (keyed-numbers (exchange_pairs exchange) pairs-keyed)) tt);
     };
-    seen_is = up ∙ ap (greatest seen) (sym stamps-are)
-        ∙ ap (λ s. greatest s (stamps (exchange_pairs exchange))) k.seen_is
+    seen_is = up ∙ ap (greatest seen) (sym seen-are)
+        ∙ ap (λ s. greatest s (seen_in (exchange_pairs exchange))) k.seen_is
         ∙ sym (seen-push 0 k.promise.asks.exchanges exchange);
     limit = limit;
     way = refl;
@@ -426,7 +430,7 @@ module _ {F : Type 0} (setting : Setting) (sent : ℕ → List (Ask F))
   }
 
   -- without it, where it has no pair
-  keeps-none : handled ≡ [] → Keeps setting sent received groups high after [] false
+  keeps-none : handled ≡ [] → Keeps setting sent received groups high after [] false view
   keeps-none nothing = record {
     promise = record {
       taken = k.promise.taken;
@@ -456,9 +460,10 @@ module _ {F : Type 0} (setting : Setting) (sent : ℕ → List (Ask F))
           hears = λ worker lt. refl;
         };
       };
+      looks = k.promise.looks;
     };
-    seen_is = up ∙ ap (greatest seen) (sym stamps-are)
-        ∙ ap (λ (hs : List Handled). greatest seen (stamps (map (λ (x : Handled). x.pair) hs)))
+    seen_is = up ∙ ap (greatest seen) (sym seen-are)
+        ∙ ap (λ (hs : List Handled). greatest seen (seen_in (map (λ (x : Handled). x.pair) hs)))
         nothing ∙ k.seen_is;
     limit = limit;
     way = refl;
@@ -466,12 +471,12 @@ module _ {F : Type 0} (setting : Setting) (sent : ℕ → List (Ask F))
   }
 
   by-pairs : (pairs : List Pair) → exchange_pairs exchange ≡ pairs
-      → Keeps setting sent received (with_pairs groups pairs) high after [] false
+      → Keeps setting sent received (with_pairs groups pairs) high after [] false view
   by-pairs [] e = keeps-none (map-none (λ (x : Handled). x.pair) handled e)
   by-pairs (pair ∷ pairs) e = subst (λ (ps : List Pair).
-      Keeps setting sent received (groups ++ ps ∷ []) high after [] false) e keeps-more
+      Keeps setting sent received (groups ++ ps ∷ []) high after [] false view) e keeps-more
 
   -- the group of these requests and its replies are an exchange more, unless it is empty
   pub keeps-merged : Keeps setting sent received (with_pairs groups (pairs_of asked merged)) high
-      after [] false
+      after [] false view
   keeps-merged = by-pairs (pairs_of asked merged) pairs-are

@@ -1,17 +1,14 @@
 -- Replies that go into frames, and tasks that have them.
-use Rattle.std.proofs.Common.{◌≡◌, ℕ, suc, ◌+◌, ◌<◌, ◌≤◌, ◌^◌, List, [], ◌∷◌, ◌++◌, length, nat_eq}
-use Rattle.std.proofs.Common.{Option}
-use Rattle.std.proofs.Common.{None, Some, Bool, true, false, refl, sym, ap, ◌∙◌, subst, arith}
-use Rattle.std.proofs.Common.{length-append}
-use Rattle.std.specs.Prelude.{◌&&◌, nat_le, nat_lt, IfSome}
+use Rattle.std.proofs.Common.{◌≡◌, ℕ, suc, ◌<◌, ◌^◌, List, [], ◌∷◌, length, nat_eq}
+use Rattle.std.proofs.Common.{true, refl, ap, ◌∙◌, arith}
+use Rattle.std.specs.Prelude.{nat_le, IfSome}
 use Rattle.std.specs.List.{AllByRecursion}
-use Rattle.std.proofs.lemmas.Bool.{false≢true}
 use Rattle.std.proofs.lemmas.Bool.Decides.{nat_tests}
 use Rattle.kv_base.specs.declared.reply.Reply.{Reply}
 use Rattle.kv_base.specs.declared.reply.Reply.TheVariants.{Stored, Found, Missing, Removed, Absent}
 use Rattle.kv_base.specs.declared.reply.Reply.TheVariants.{BadKey, TooLarge, Full, NoMemory}
 use Rattle.kv_base.specs.declared.reply.Reply.TheVariants.{DiskFault, Unsure, Closed, StampsSpent}
-use Rattle.kv_base.specs.declared.reply.Reply.TheVariants.{Malformed}
+use Rattle.kv_base.specs.declared.reply.Reply.TheVariants.{Malformed, Noted, Ahead}
 use Rattle.kv_model.specs.Frames.{HasReplyFrame}
 use Rattle.kv_model.specs.Pairs.{stamp_of}
 use Rattle.kv_ring.specs.declared.task.Task.{Task}
@@ -41,6 +38,8 @@ good-all (Unsure stamp) framed low = lt-true stamp (2 ^ 62) low
 good-all Closed framed low = refl
 good-all (StampsSpent number) framed low = refl
 good-all (Malformed offset) framed low = refl
+good-all Noted framed low = refl
+good-all (Ahead number) framed low = refl
 
 -- such a task has a reply, which is a good one
 pub has-reply : (task : Task) → IsReplied task → has_reply task.reply ≡ true

@@ -1,14 +1,17 @@
 -- A session's party: what its messages that wait, its group and its end have to do with one another.
-use Rattle.std.proofs.Common.{◌≡◌, ℕ, zero, suc, ◌<◌, ◌≤◌, ◌^◌, List, [], ◌∷◌, ◌++◌, length, Option}
+use Rattle.std.proofs.Common.{◌≡◌, ℕ, zero, suc, List, [], ◌∷◌, ◌++◌, length, Option}
 use Rattle.std.proofs.Common.{get_or, None, Some, Bool, true, false, refl, sym, ap, ◌∙◌, subst}
 use Rattle.std.proofs.Common.{subst₂, arith}
-use Rattle.std.specs.Prelude.{◌↔◌, ◌||◌, ◌&&◌, not, is_some, option_to_list}
+use Rattle.std.specs.Prelude.{◌↔◌, ◌||◌, ◌&&◌, not, is_some, option_to_list, All, IfSome, map}
 use Rattle.std.specs.List.{AllByRecursion}
 use Rattle.std.proofs.lemmas.Bool.{true≢false, false≢true}
 use Rattle.std.proofs.lemmas.List.{append-nil}
 use Rattle.kv_base.specs.Reserved.{Reserved}
 use Rattle.kv_base.specs.declared.cause.Cause.{Cause}
 use Rattle.kv_base.specs.declared.reply.Reply.{Reply}
+use Rattle.kv_base.specs.declared.request.Request.TheVariants.{After as AfterOf, Flush}
+use Rattle.kv_model.specs.Pairs.{Pair}
+use Rattle.kv_session.specs.Tasks.{HaveReplies}
 use Rattle.kv_model.specs.Layout.{all_classes}
 use Rattle.kv_parties.specs.Messages.{all_asking, groups_in}
 use Rattle.kv_parties.specs.Setting.{Setting}
@@ -17,14 +20,14 @@ use Rattle.kv_ring.specs.declared.message.Answer.{Answer}
 use Rattle.kv_ring.specs.declared.message.Ask.{Ask}
 use Rattle.kv_ring.specs.declared.task.Task.{Task}
 use Rattle.kv_session.specs.Passage.{Streams, HasRead}
-use Rattle.kv_session.specs.Session.{SessionState, EndsGroup}
+use Rattle.kv_session.specs.Session.{SessionState, EndsGroup, KeepsReading, after_taken}
 use Rattle.kv_session.specs.declared.gathered.Gathered.{Gathered}
-use Rattle.kv_session.specs.declared.gathered.Gathered.TheVariants.{More, Ending as EndingOf}
+use Rattle.kv_session.specs.declared.gathered.Gathered.TheVariants.{More, After, Ending as EndingOf}
 use Rattle.kv_session.specs.declared.ending.Ending.{Ending}
 use Rattle.kv_parties.specs.Messages.{takes_message, Hears}
-use Rattle.kv_session_party.specs.Exchanges.{Asks, Receives, part_behind_came, is_owed}
+use Rattle.kv_session_party.specs.Exchanges.{Asks, Receives, part_behind_came}
 use Rattle.kv_session_party.specs.Links.{waiting_for, told_to, WaitsForPlaces}
-use Rattle.kv_session_party.specs.Party.{WaitsAway, ends_reading}
+use Rattle.kv_session_party.specs.Party.{WaitsAway, KeepsBytes, ends_reading}
 use Rattle.kv_session_party.specs.Promise.{Tells, HasCourse, IsServed}
 use Rattle.kv_session_party.specs.Parts.{is_bare, is_away, part_of, part_out}
 use Rattle.kv_session_party.specs.Routes.{RoutesState, IsBare}
@@ -33,6 +36,9 @@ use Rattle.kv_session_party.specs.declared.links.Links.{Links}
 use Rattle.kv_session_party.specs.declared.part.Part.{Part}
 use Rattle.kv_session_party.specs.declared.part.Part.TheVariants.{Here, Away}
 use Rattle.kv_session_party.proofs.HearingLemmas.{Hears-new}
+use Rattle.kv_parties.specs.Stamps.{HasDrawnNone, IsForExchange}
+use Rattle.kv_stamps.specs.declared.view.View.{View}
+use Rattle.std.proofs.lemmas.List.Elements.{All-from_recursion}
 
 -- ---- options
 
@@ -61,7 +67,76 @@ over-is true whole (Some c) (Some e) is both = refl
 pub ends-closing : (gathered : Gathered) (closing : Option Cause) → EndsGroup gathered closing
     → ends_reading gathered ≡ is_some closing
 ends-closing More closing ends = sym (of-none closing ends)
+ends-closing (After stamp) closing ends = sym (of-none closing ends)
 ends-closing (EndingOf cause) closing ends = sym (ap is_some ends)
+
+-- where nothing is to be answered next, the session stays
+pub stays-same : {So Si : Type 0} (over : Bool) (mid new : SessionState So Si) (next : Option ℕ)
+    → (over ≡ true → (next ≡ None) × (new ≡ mid))
+    → (over ≡ false → (next ≡ mid.after) × (new ≡ after_taken mid)) → next ≡ None → new ≡ mid
+stays-same true mid new next ended goes none = (ended refl).1
+stays-same {So = So} {Si = Si} false mid new next ended goes none =
+    (goes refl).1
+    ∙ ap (λ (a : Option ℕ). with_after mid a) (sym none ∙ (goes refl).0)
+  where
+    with_after : SessionState So Si → Option ℕ → SessionState So Si
+    with_after session a = record session { after = a }
+
+-- where something is, it goes on
+pub goes-next : {So Si : Type 0} (over : Bool) (mid new : SessionState So Si) (next : Option ℕ)
+    (stamp : ℕ) → (over ≡ true → (next ≡ None) × (new ≡ mid)) → next ≡ Some stamp → over ≡ false
+goes-next true mid new next stamp ended is =
+    absurd (true≢false (ap is_some (sym is ∙ (ended refl).0)))
+goes-next false mid new next stamp ended is = refl
+
+-- behind the replies a session has the bytes that it had
+pub keeps-delivered : {So Si : Type 0} (old new : SessionState So Si) → KeepsReading old new
+    → KeepsBytes old new
+keeps-delivered old new kept = record {
+  source = kept.source;
+  waiting = kept.waiting;
+  taken = kept.taken;
+  ended = kept.ended;
+  closing = kept.closing;
+}
+
+-- and so it has behind the reply to an After too
+pub keeps-told : {So Si : Type 0} (old mid out new : SessionState So Si) → KeepsReading old mid
+    → out ≡ after_taken mid → KeepsReading out new → KeepsBytes old new
+keeps-told {So = So} {Si = Si} old mid out new first same last =
+    let State = SessionState So Si in
+    record {
+      source = last.source ∙ ap (λ (s : State). s.source) same ∙ first.source;
+      waiting = last.waiting ∙ ap (λ (s : State). s.waiting) same ∙ first.waiting;
+      taken = last.taken ∙ ap (λ (s : State). s.taken) same ∙ first.taken;
+      ended = last.ended ∙ ap (λ (s : State). s.ended) same ∙ first.ended;
+      closing = last.closing ∙ ap (λ (s : State). s.closing) same ∙ first.closing;
+    }
+
+-- it is then the group that has no reply yet
+pub next-asks : {So Si : Type 0} (streams : Streams So Si) (source : So) (sink : Si)
+    (groups : List (List Pair)) (mid new : SessionState So Si) (next : Option ℕ) (stamp : ℕ)
+    → next ≡ Some stamp
+    → IfSome next (λ at. (begun : So) (end : Si) (all : List (List Pair))
+    → HasRead streams begun end all [] mid
+    → HasRead streams begun end all (AfterOf at ∷ []) new)
+    → HasRead streams source sink groups [] mid
+    → HasRead streams source sink groups (AfterOf stamp ∷ []) new
+next-asks streams source sink groups mid new next stamp is asks read =
+    subst (λ (o : Option ℕ). IfSome o (λ at. (begun : _) (end : _) (all : List (List Pair))
+    → HasRead streams begun end all [] mid
+    → HasRead streams begun end all (AfterOf at ∷ []) new)) is asks source sink groups read
+
+-- a list that was empty has the one reply
+pub one-replied : (before tasks : List Task) (reply : Reply) → before ≡ []
+    → tasks ≡ before ++ record { request = Flush; reply = Some reply } ∷ []
+    → HaveReplies tasks (reply ∷ [])
+one-replied before tasks reply none is = ap (map (λ task. task.reply))
+    (is ∙ ap (λ ts. ts ++ record { request = Flush; reply = Some reply } ∷ []) none)
+
+pub or-second : (a b : Bool) → (a || b) ≡ false → b ≡ false
+or-second true b e = absurd (true≢false e)
+or-second false b e = e
 
 pub or-first : (a b : Bool) → (a || b) ≡ false → a ≡ false
 or-first true b e = absurd (true≢false e)
@@ -170,16 +245,20 @@ some-served workers = record { layout = refl; workers_are = refl }
 
 pub Tells-new : {So Si F : Type 0} (streams : Streams So Si) (setting : Setting) (source : So)
     (sink : Si) (now : SessionState So Si) (sent : ℕ → List (Ask F))
-    (received : ℕ → List (Answer F)) (routes : RoutesState) → ((worker : ℕ) → sent worker ≡ [])
+    (received : ℕ → List (Answer F)) (routes : RoutesState) (view : View)
+    → ((worker : ℕ) → sent worker ≡ [])
     → ((worker : ℕ) → received worker ≡ []) → length routes.parts ≡ setting.workers
-    → now.ending ≡ None → HasRead streams source sink [] [] now
-    → Tells streams setting source sink now sent received 0 routes false
-Tells-new {F = F} streams setting source sink now sent received routes none nothing size going read =
+    → HasDrawnNone view → now.ending ≡ None → HasRead streams source sink [] [] now
+    → Tells streams setting source sink now sent received 0 routes false view false
+Tells-new {F = F} streams setting source sink now sent received routes view none nothing size fresh
+    going read =
     let messages : (worker : ℕ) → all_asking (sent worker) ≡ [] = λ worker.
     ap all_asking (none worker) in
     record {
       groups = [];
       asked = [];
+      gaps = view.gaps;
+      gaps_are = λ unlifted. refl;
       keeps = record {
         promise = record {
           taken = λ worker lt. subst (AllByRecursion (λ message.
@@ -204,6 +283,13 @@ Tells-new {F = F} streams setting source sink now sent received routes none noth
               asks = λ worker lt. refl;
               hears = λ worker lt. refl;
             };
+          };
+          looks = record {
+            drawn = fresh.drawn;
+            spent = fresh.spent;
+            gaps = subst (All (IsForExchange [])) (sym fresh.gaps)
+                (All-from_recursion (IsForExchange []) [] tt);
+            told = tt;
           };
         };
         seen_is = refl;

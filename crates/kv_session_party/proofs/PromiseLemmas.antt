@@ -1,11 +1,11 @@
 -- What a session promises, as its rings and its group go on.
-use Rattle.std.proofs.Common.{◌≡◌, ◌⊎◌, inl, inr, ℕ, zero, suc, ◌+◌, ◌<◌, ◌≤◌, ◌^◌, List, [], ◌∷◌}
+use Rattle.std.proofs.Common.{◌≡◌, ◌⊎◌, inl, inr, ℕ, ◌+◌, ◌<◌, ◌≤◌, List, [], ◌∷◌}
 use Rattle.std.proofs.Common.{◌++◌}
 use Rattle.std.proofs.Common.{length, map, Option, None, Some, Bool, true, false, cond, nat_eq}
 use Rattle.std.proofs.Common.{refl}
 use Rattle.std.proofs.Common.{sym, ap, ◌∙◌, subst, subst₂, arith, append_assoc, length-append}
 use Rattle.std.specs.Prelude.{◌&&◌, not, is_some, filter, option_to_list}
-use Rattle.std.specs.List.{AllByRecursion, flat_map}
+use Rattle.std.specs.List.{AllByRecursion}
 use Rattle.std.proofs.lemmas.Bool.{true≢false, false≢true}
 use Rattle.std.proofs.lemmas.Bool.Decides.{nat_tests}
 use Rattle.std.proofs.lemmas.List.{append-nil, map-append, length-map}
@@ -30,6 +30,7 @@ use Rattle.kv_ring.specs.Tasks.{requests_of}
 use Rattle.kv_session.specs.Tasks.{AreTaken, GoesOn, IsRefused}
 use Rattle.kv_parties.specs.Messages.{IsReplied, Hears}
 use Rattle.kv_parties.specs.Promises.{SessionPromise}
+use Rattle.kv_stamps.specs.declared.view.View.{View}
 use Rattle.kv_parties.specs.Sessions.{IsUnderWay, Sent, HasCome}
 use Rattle.kv_parties.specs.Messages.{IsAnswerTo, takes_message}
 use Rattle.kv_parties.specs.Sessions.{message_of, asked_of, was_asked}
@@ -272,12 +273,12 @@ module _ {F : Type 0} where
     asking = λ worker lt. ap all_asking (bye worker lt) ∙ asking-bye (sent worker);
   }
 
-  abbrev pub promise-same : (setting : Setting) (sent later : ℕ → List (Ask F))
+  abbrev pub promise-same : {view : View} (setting : Setting) (sent later : ℕ → List (Ask F))
       (received now : ℕ → List (Answer F)) (groups : List (List Pair)) (asked : List Request)
       (waiting : Bool) → TellsSame setting.workers sent later
       → ((worker : ℕ) → now worker ≡ received worker)
-      → SessionPromise setting sent received groups asked waiting
-      → SessionPromise setting later now groups asked waiting
+      → SessionPromise setting sent received groups asked waiting view
+      → SessionPromise setting later now groups asked waiting view
   promise-same setting sent later received now groups asked waiting told heard p = record {
     taken = λ worker lt. subst (AllByRecursion (λ message.
         takes_message setting.layout worker setting.workers message ≡ true))
@@ -301,15 +302,16 @@ module _ {F : Type 0} where
       handled = p.asks.handled;
       pending = p.asks.pending;
     };
+    looks = p.looks;
   }
 
-  pub keeps-same : (setting : Setting) (sent later : ℕ → List (Ask F))
+  pub keeps-same : {view : View} (setting : Setting) (sent later : ℕ → List (Ask F))
       (received now : ℕ → List (Answer F)) (groups : List (List Pair)) (seen : ℕ)
       (routes : RoutesState) (asked : List Request) (waiting : Bool)
       → TellsSame setting.workers sent later
       → ((worker : ℕ) → now worker ≡ received worker)
-      → Keeps setting sent received groups seen routes asked waiting
-      → Keeps setting later now groups seen routes asked waiting
+      → Keeps setting sent received groups seen routes asked waiting view
+      → Keeps setting later now groups seen routes asked waiting view
   keeps-same setting sent later received now groups seen routes asked true told heard k = record {
     promise = promise-same setting sent later received now groups asked true told heard k.promise;
     seen_is = k.seen_is;
@@ -481,7 +483,7 @@ module _ {F : Type 0} where
       (after-here count later answer is) owed
 
   -- answers came, and those that are taken stand in their parts
-  pub keeps-received : (setting : Setting) (sent later : ℕ → List (Ask F))
+  pub keeps-received : {view : View} (setting : Setting) (sent later : ℕ → List (Ask F))
       (received now : ℕ → List (Answer F)) (groups : List (List Pair)) (seen : ℕ)
       (routes after : RoutesState) (asked : List Request) (came : ℕ → Option (Answer F))
       → ((worker : ℕ) → later worker ≡ sent worker)
@@ -493,8 +495,8 @@ module _ {F : Type 0} where
       → AllByRecursion IsReplied (tasks_here (part_of after.parts worker)))
       → ((worker : ℕ) → is_away (part_of routes.parts worker) ≡ false → came worker ≡ None)
       → after.places ≡ routes.places → length after.parts ≡ length routes.parts
-      → Keeps setting sent received groups seen routes asked true
-      → Keeps setting later now groups seen after asked true
+      → Keeps setting sent received groups seen routes asked true view
+      → Keeps setting later now groups seen after asked true view
   keeps-received setting sent later received now groups seen routes after asked came told heard
       parts replied unasked places size k =
       let p = k.promise in
@@ -553,6 +555,7 @@ module _ {F : Type 0} where
             pending = under-way setting seen (seen_behind 0 p.asks.exchanges) later
                 (λ w. p.heard w ++ new w) p.asks.asking coming after asked k.seen_is way;
           };
+          looks = p.looks;
         };
         seen_is = k.seen_is;
         limit = k.limit;
@@ -563,7 +566,7 @@ module _ {F : Type 0} where
   -- ---- a group is asked
 
   -- a group was read and routed, and each worker was asked for its part
-  pub keeps-asked : (setting : Setting) (sent later : ℕ → List (Ask F))
+  pub keeps-asked : {view : View} (setting : Setting) (sent later : ℕ → List (Ask F))
       (received now : ℕ → List (Answer F)) (groups : List (List Pair)) (seen : ℕ)
       (before routes after : RoutesState) (asked : List Request) (tasks : List Task)
       → setting.layout ≡ all_classes → AreTaken asked tasks → length tasks ≤ 64
@@ -573,8 +576,8 @@ module _ {F : Type 0} where
       → ((worker : ℕ) → now worker ≡ received worker)
       → ((worker : ℕ) → part_of after.parts worker ≡ part_out (part_of routes.parts worker))
       → after.places ≡ routes.places → length after.parts ≡ length routes.parts
-      → Keeps setting sent received groups seen before [] false
-      → Keeps setting later now groups seen after asked true
+      → Keeps setting sent received groups seen before [] false view
+      → Keeps setting later now groups seen after asked true view
   keeps-asked setting sent later received now groups seen before routes after asked tasks layout
       taken few r many told heard parts places size k =
       let p = k.promise in
@@ -645,6 +648,7 @@ module _ {F : Type 0} where
             pending = under-way setting seen (seen_behind 0 p.asks.exchanges) later p.heard
                 asking_now (λ w. []) after asked k.seen_is way;
           };
+          looks = p.looks;
         };
         seen_is = k.seen_is;
         limit = k.limit;

@@ -1,12 +1,12 @@
 -- What a group's merging asks is a proposition.
-use Rattle.std.proofs.Common.{◌≡◌, ℕ, List, length, true}
+use Rattle.std.proofs.Common.{ℕ, List, length}
 use Rattle.std.specs.List.{AllByRecursion, AllByRecursion-prop}
 use Rattle.std.proofs.Props.{props}
 use Rattle.kv_base.specs.declared.reply.Reply.{Reply}
 use Rattle.kv_base.specs.declared.reply.Reply.TheVariants.{Stored, Found, Missing, Removed, Absent}
 use Rattle.kv_base.specs.declared.reply.Reply.TheVariants.{BadKey, TooLarge, Full, NoMemory}
 use Rattle.kv_base.specs.declared.reply.Reply.TheVariants.{DiskFault, Unsure, Closed, StampsSpent}
-use Rattle.kv_base.specs.declared.reply.Reply.TheVariants.{Malformed}
+use Rattle.kv_base.specs.declared.reply.Reply.TheVariants.{Malformed, Noted, Ahead}
 use Rattle.kv_model.specs.Frames.{HasReplyFrame}
 use Rattle.kv_session_party.specs.Merging.{AreAnswered, IsKnown}
 use Rattle.kv_session_party.specs.Parts.{HasReply, part_of, tasks_here}
@@ -42,6 +42,8 @@ frame-prop (Unsure stamp) = hlevel props
 frame-prop Closed = hlevel props
 frame-prop (StampsSpent number) = hlevel props
 frame-prop (Malformed offset) = hlevel props
+frame-prop Noted = hlevel props
+frame-prop (Ahead number) = hlevel props
 
 pub frames-prop : (replies : List Reply) → IsProp (AllByRecursion HasReplyFrame replies)
 frames-prop replies = AllByRecursion-prop HasReplyFrame frame-prop replies

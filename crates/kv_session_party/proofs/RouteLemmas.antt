@@ -1,11 +1,11 @@
 -- Lemmas on routing a group's tasks.
-use Rattle.std.proofs.Common.{◌≡◌, ◌≢◌, ◌⊎◌, inl, inr, ⊎_elim, ℕ, zero, suc, ◌+◌, ◌<◌, ◌≤◌, List}
+use Rattle.std.proofs.Common.{◌≡◌, ◌≢◌, ◌⊎◌, inl, inr, ⊎_elim, ℕ, zero, suc, ◌<◌, ◌≤◌, List}
 use Rattle.std.proofs.Common.{[]}
-use Rattle.std.proofs.Common.{◌∷◌, ◌++◌, length, reverse, Option, None, Some, Bool, true, false}
+use Rattle.std.proofs.Common.{◌∷◌, ◌++◌, length, reverse, Option, None, Some, true, false}
 use Rattle.std.proofs.Common.{cond}
-use Rattle.std.proofs.Common.{get_or, set, nat_eq, refl, sym, ap, ◌∙◌, subst, subst₂, arith}
+use Rattle.std.proofs.Common.{set, nat_eq, refl, sym, ap, ◌∙◌, subst, subst₂, arith}
 use Rattle.std.proofs.Common.{append_assoc, length-append}
-use Rattle.std.specs.Prelude.{not, is_some, ◌&&◌, IsSome, IfSome, filter, Result, Ok, OnOk}
+use Rattle.std.specs.Prelude.{not, is_some, ◌&&◌, IsSome, IsSomeAnd, Result, Ok, Err, IsOk, OnOk}
 use Rattle.std.specs.Prelude.{MatchOption}
 use Rattle.std.specs.List.{AllByRecursion}
 use Rattle.std.proofs.lemmas.Bool.{false≢true}
@@ -34,6 +34,11 @@ use Rattle.kv_session_party.specs.declared.routes.Place.TheVariants.{Own, Worker
 
 -- ---- results
 
+-- what holds on `Ok` holds where the result is that
+pub of_ok : {T E : Type 0} (result : Result T E) (P : Type 0) → IsOk result → OnOk result P → P
+of_ok (Ok x) P is p = p
+of_ok (Err e) P is p = absurd (cc)
+
 -- what is said of a result where it is Ok
 pub ok-then : {A E : Type 0} (P : Type 0) (result : Result A E) (value : A) → result ≡ Ok value
     → OnOk result P → P
@@ -56,13 +61,13 @@ pub same_or_not : (m n : ℕ) → (m ≡ n) ⊎ (m ≢ n)
 same_or_not m n = grind arith
 
 owns-self : (n worker : ℕ) (key : Option (List ℕ)) → IsSome key
-    → IfSome key (λ k. owner_of k n ≡ worker) → owns n worker key ≡ true
+    → IsSomeAnd key (λ k. owner_of k n ≡ worker) → owns n worker key ≡ true
 owns-self n worker None some is = absurd (false≢true some)
 owns-self n worker (Some k) some is = subst (λ m. nat_eq m worker ≡ true) (sym is) (eq_self worker)
 
 owns-other : (n worker other : ℕ) (key : Option (List ℕ))
-    → IfSome key (λ k. owner_of k n ≡ worker) → other ≢ worker → owns n other key ≡ false
-owns-other n worker other None is ne = refl
+    → IsSomeAnd key (λ k. owner_of k n ≡ worker) → other ≢ worker → owns n other key ≡ false
+owns-other n worker other None is ne = absurd is
 owns-other n worker other (Some k) is ne = eq_not (owner_of k n) other (λ e. ne (sym e ∙ is))
 
 -- ---- places

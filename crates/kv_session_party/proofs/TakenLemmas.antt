@@ -1,19 +1,17 @@
 -- The tasks of a group as they were routed, and the frames of its replies.
-use Rattle.std.proofs.Common.{◌≡◌, ◌⊎◌, inl, inr, ℕ, ◌<◌, ◌^◌, List, [], ◌∷◌, Option, None, Some}
+use Rattle.std.proofs.Common.{◌≡◌, ◌⊎◌, inl, inr, ℕ, ◌<◌, ◌^◌, List, [], ◌∷◌, None, Some}
 use Rattle.std.proofs.Common.{Bool, true, false}
-use Rattle.std.proofs.Common.{cond, nat_eq, refl, sym, ap, ◌∙◌, subst, arith}
+use Rattle.std.proofs.Common.{cond, refl, sym, ◌∙◌, subst, arith}
 use Rattle.std.specs.Prelude.{IsSome, IfSome, MatchOption}
 use Rattle.std.specs.List.{AllByRecursion}
 use Rattle.kv_base.specs.declared.reply.Reply.{Reply}
 use Rattle.kv_base.specs.declared.reply.Reply.TheVariants.{BadKey, TooLarge, NoMemory}
 use Rattle.kv_base.specs.declared.request.Request.{Request}
-use Rattle.kv_model.specs.Agreement.{refusal_of}
 use Rattle.kv_model.specs.Frames.{HasReplyFrame}
-use Rattle.kv_model.specs.Layout.{all_classes}
 use Rattle.kv_model.specs.Pairs.{key_of, stamp_of}
 use Rattle.kv_ring.specs.declared.task.Task.{Task}
 use Rattle.kv_session_party.specs.Merging.{HaveOwn}
-use Rattle.kv_session_party.specs.Routes.{IsKept, AreKept, IsRoutable, unrouted, ArePlaces, IsPlace}
+use Rattle.kv_session_party.specs.Routes.{IsKept, AreKept, IsRoutable, ArePlaces, IsPlace}
 use Rattle.kv_session_party.specs.Merging.{IsOwn, replies_at}
 use Rattle.kv_session_party.specs.Routes.{is_at}
 use Rattle.kv_session.specs.Tasks.{AreTaken, GoesOn, IsRefused}
@@ -34,6 +32,7 @@ kept-one request task kept taken (inl same) =
     subst (λ (t : Task). GoesOn request t ⊎ IsRefused request t) (sym same) taken
 kept-one request task kept (inl on) (inr lost) =
     subst (λ (t : Task). GoesOn request t ⊎ IsRefused request t) (sym lost.1) (inr (record {
+      keyed = on.good.keyed;
       reply = NoMemory;
       cause = subst (λ o. MatchOption o (NoMemory ≡ NoMemory) (λ refusal. NoMemory ≡ refusal))
           (sym on.good.good) refl;

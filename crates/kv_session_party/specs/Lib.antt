@@ -4,5 +4,7 @@ pub mod Merging
 pub mod Sending
 pub mod Links
 pub mod Exchanges
+pub mod Looking
 pub mod Promise
 pub mod Party
+pub mod Threads

@@ -92,6 +92,8 @@ is_good (reply.Unsure stamp) = is_stamp stamp
 is_good reply.Closed = true
 is_good (reply.StampsSpent number) = true
 is_good (reply.Malformed offset) = true
+is_good reply.Noted = true
+is_good (reply.Ahead number) = true
 
 -- the reply is there, and is such a one
 abbrev pub has_reply : Option Reply → Bool

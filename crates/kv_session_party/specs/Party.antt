@@ -1,7 +1,7 @@
 -- A session's party, and what a turn of it does.
 use Rattle.std.specs.Prelude.{◌≡◌, ℕ, ◌+◌, ◌^◌, ◌<◌, ◌≤◌, List, [], length, Option, None, Some}
 use Rattle.std.specs.Prelude.{Bool}
-use Rattle.std.specs.Prelude.{true, false, ◌||◌, ◌&&◌, not, is_some, IsSome, if◌then◌else◌, ◌∷◌}
+use Rattle.std.specs.Prelude.{true, false, ◌||◌, ◌&&◌, not, is_some, IsSome, ◌∷◌}
 use Rattle.std.specs.Prelude.{max, unwrap_or}
 use Rattle.kv_base.specs.declared.reply.Reply.{Reply}
 use Rattle.kv_model.specs.Pairs.{stamp_of}
@@ -19,7 +19,7 @@ use Rattle.kv_session.specs.declared.ending.Ending.{Ending}
 use Rattle.kv_session_party.specs.declared.links.Links.{Links}
 use Rattle.kv_session_party.specs.declared.part.Part.{Part}
 use Rattle.kv_session.specs.declared.gathered.Gathered.{Gathered}
-use Rattle.kv_session.specs.declared.gathered.Gathered.TheVariants.{More, Ending as EndingOf}
+use Rattle.kv_session.specs.declared.gathered.Gathered.TheVariants.{More, After, Ending as EndingOf}
 
 -- the session has ended, and no message waits
 abbrev pub is_over : {F : Type 0} → Option Ending → Links F → Bool
@@ -28,6 +28,7 @@ is_over ending links = is_some ending && not (any_waits links.unsent.items)
 -- the group ended with the reading
 abbrev pub ends_reading : Gathered → Bool
 ends_reading More = false
+ends_reading (After stamp) = false
 ends_reading (EndingOf cause) = true
 
 -- where a message waits for a worker, its tasks are away
@@ -69,6 +70,14 @@ pub record TurnsWaiting {F : Type 0} (links new : Links F) (routes : RoutesState
   pub waits : WaitsFor between new routes waiting came
   pub result_is : result ≡ turn_of over
       (any_went links.unsent.items between.unsent.items || came)
+
+-- what the session took stays, and so does why its reading ended
+pub record KeepsBytes {So Si : Type 0} (old new : SessionState So Si) : Type 0 where
+  pub source : new.source ≡ old.source
+  pub waiting : new.waiting ≡ old.waiting
+  pub taken : new.taken ≡ old.taken
+  pub ended : new.ended ≡ old.ended
+  pub closing : new.closing ≡ old.closing
 
 -- a turn that reads uses up bytes while reading goes on, and isn't idle
 pub record TurnsReading {So Si : Type 0} (old new : SessionState So Si) : Type 0 where

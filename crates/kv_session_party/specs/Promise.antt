@@ -17,6 +17,8 @@ use Rattle.kv_ring.specs.declared.message.Ask.{Ask}
 use Rattle.kv_ring.specs.declared.message.Ask.TheVariants as ask
 use Rattle.kv_ring.specs.declared.task.Task.{Task}
 use Rattle.kv_session.specs.Passage.{Streams, HasRead, HasSession}
+use Rattle.kv_stamps.specs.declared.view.Range.{Range}
+use Rattle.kv_stamps.specs.declared.view.View.{View}
 use Rattle.kv_session.specs.Session.{SessionState}
 use Rattle.kv_session.specs.Tasks.{AreTaken}
 use Rattle.kv_session.specs.declared.ending.Ending.{Ending}
@@ -86,8 +88,8 @@ module _ {F : Type 0} where
   -- the group's requests are
   pub record Keeps (setting : Setting) (sent : ℕ → List (Ask F)) (received : ℕ → List (Answer F))
       (groups : List (List Pair)) (seen : ℕ) (routes : RoutesState) (asked : List Request)
-      (waiting : Bool) : Type 0 where
-    pub promise : SessionPromise setting sent received groups asked waiting
+      (waiting : Bool) (view : View) : Type 0 where
+    pub promise : SessionPromise setting sent received groups asked waiting view
     pub seen_is : seen ≡ seen_behind 0 promise.asks.exchanges
     pub limit : seen < 2 ^ 62
     pub way : StandsOut waiting setting seen sent promise.heard promise.asks.asking
@@ -103,14 +105,21 @@ HasCourse streams source sink groups asked waiting now None =
 HasCourse streams source sink groups asked waiting now (Some ending) =
     HasSession streams source now.source sink now.sink ending groups × (waiting ≡ false)
 
--- a session's transcript and its promise, over the same groups
+-- the view with these gaps
+abbrev pub with_gaps : View → List Range → View
+with_gaps view gaps = record view { gaps = gaps }
+
+-- a session's transcript and its promise, over the same groups; the gaps of its seat are those that
+-- the promise speaks of, unless the counter was lifted through it from outside
 pub record Tells {So Si F : Type 0} (streams : Streams So Si) (setting : Setting) (source : So)
     (sink : Si) (now : SessionState So Si) (sent : ℕ → List (Ask F))
-    (received : ℕ → List (Answer F)) (seen : ℕ) (routes : RoutesState) (waiting : Bool) :
-    Type 0 where
+    (received : ℕ → List (Answer F)) (seen : ℕ) (routes : RoutesState) (waiting : Bool)
+    (view : View) (lifted : Bool) : Type 0 where
   pub groups : List (List Pair)
   pub asked : List Request
-  pub keeps : Keeps setting sent received groups seen routes asked waiting
+  pub gaps : List Range
+  pub gaps_are : lifted ≡ false → gaps ≡ view.gaps
+  pub keeps : Keeps setting sent received groups seen routes asked waiting (with_gaps view gaps)
   pub course : HasCourse streams source sink groups asked waiting now now.ending
 
 -- each request with its reply, and whether a worker gave it

@@ -23,7 +23,9 @@ fn stamp_in(reply: &Reply) -> u64
         | Reply::DiskFault
         | Reply::Closed
         | Reply::StampsSpent { number: _ }
-        | Reply::Malformed { offset: _ } => 0,
+        | Reply::Malformed { offset: _ }
+        | Reply::Noted
+        | Reply::Ahead { number: _ } => 0,
     }
 }
 

@@ -152,6 +152,8 @@ fn is_good(reply: &Reply) -> bool
         Reply::Unsure { stamp } => is_stamp(*stamp),
         Reply::StampsSpent { number } => is_word(*number),
         Reply::Malformed { offset } => is_word(*offset),
+        Reply::Ahead { number } => is_word(*number),
+        Reply::Noted => true,
         Reply::Full { class } => is_byte(*class),
         Reply::BadKey => true,
         Reply::TooLarge => true,

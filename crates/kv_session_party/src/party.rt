@@ -1,20 +1,24 @@
 ghost use Rattle.std.specs.Prelude.{◌≡◌, ◌≤◌, true, false, length, is_some, not, ◌||◌};
+ghost use Rattle.std.specs.Prelude.{List, [], ◌∷◌, None, Some, IfSome};
 ghost use Rattle.kv_parties.specs.Setting.{Setting};
 ghost use Rattle.kv_ring.specs.Ends.{peers};
 ghost use Rattle.kv_session_party.specs.Links.{told_to, heard_from};
 ghost use Rattle.kv_session_party.specs.Party.{WaitsAway, ends_reading};
 ghost use Rattle.kv_session_party.specs.Routes.{IsBare};
-ghost use Rattle.kv_session.specs.Passage.{Streams};
+ghost use Rattle.kv_session.specs.Passage.{Streams, HasRead};
+ghost use Rattle.kv_session.specs.Session.{after_taken};
+ghost use Rattle.kv_base.specs.declared.request.Request.TheVariants.{After};
+ghost use Rattle.kv_model.specs.Pairs.{Pair};
 ghost use Rattle.kv_session_party.specs.Promise.{IsServed, Tells};
 
+use crate::after::answer;
 use crate::exchange::{ask, receive};
 use crate::greatest::greatest;
 use crate::links::Links;
 use crate::routes::Routes;
 use crate::send::either;
-use kv_base::{NoMemory, ReservedList, Sink, Source};
-use kv_model::groups_hold_requests;
-use kv_ring::{SessionEnds, Tasks, Turn, WorkerSide};
+use kv_base::{NoMemory, Reply, Request, ReservedList, Sink, Source};
+use kv_ring::{SessionEnds, Task, Tasks, Turn, WorkerSide};
 use kv_session::{Ending, Gathered, Session};
 use kv_stamps::{StampSeat, Stamps};
 use std::alloc::Global;
@@ -51,6 +55,7 @@ pub struct SessionParty<So: Source, Si: Sink, F> {
     waiting: bool,
     read_all: bool,
     over: bool,
+    lifted: bool,
     seat: StampSeat,
     first: Snapshot<Session<So, Si>>,
     ghost size: { length routes.parts ≡ peers links.ends },
@@ -60,6 +65,7 @@ pub struct SessionParty<So: Source, Si: Sink, F> {
     ghost ended: { over ≡ is_some session.ending },
     ghost closed: { read_all ≡ is_some session.closing },
     ghost reads: { over ≡ false → waiting ≡ false → read_all ≡ false },
+    ghost told: { over ≡ false → waiting ≡ false → session.after ≡ None },
     ghost rests: { over ≡ true → waiting ≡ false },
     ghost away: { over ≡ false → WaitsAway links routes },
     ghost bare: { waiting ≡ false → IsBare routes },
@@ -70,7 +76,7 @@ pub struct SessionParty<So: Source, Si: Sink, F> {
       sink_faults = Si.faults;
     } in (setting : Setting) → IsServed setting (peers links.ends)
         → ∥ Tells streams setting first.value.source first.value.sink session (told_to links)
-        (heard_from links) seen routes waiting ∥₁ },
+        (heard_from links) seen routes waiting seat.view lifted ∥₁ },
 }
 
 impl<So: Source + Drop, Si: Sink + Drop, F: Drop> SessionParty<So, Si, F> {
@@ -79,7 +85,9 @@ impl<So: Source + Drop, Si: Sink + Drop, F: Drop> SessionParty<So, Si, F> {
     ghost use Rattle.kv_ring.specs.Comparing.{Compares};
     ghost use Rattle.kv_ring.specs.Ends.{peers, IsFresh, AreBetween, SameRings};
     ghost use Rattle.kv_ring.specs.declared.turn.Turn.TheVariants as turn;
-    ghost use Rattle.kv_session.specs.Session.{KeepsReading};
+    ghost use Rattle.kv_session_party.specs.Party.{KeepsBytes};
+    ghost use Rattle.kv_session_party.specs.Looking.{MayStep};
+    ghost use Rattle.kv_parties.specs.Stamps.{HasDrawnNone};
     ghost use Rattle.kv_session_party.specs.Exchanges.{Receives};
     ghost use Rattle.kv_session_party.specs.Links.{waiting_for, heard_from, coming_from};
     ghost use Rattle.kv_session_party.specs.Links.{WaitsForPlaces};
@@ -87,8 +95,8 @@ impl<So: Source + Drop, Si: Sink + Drop, F: Drop> SessionParty<So, Si, F> {
     ghost use Rattle.kv_session_party.specs.Parts.{all_here, is_away, part_of};
     ghost use Rattle.kv_stamps.specs.Steps.{Raises, Looks};
 
-    /// A session that took no byte so far, with fresh ends. Takes the buffers for its frames and
-    /// replies; want of memory hands source and sink back.
+    /// A session that took no byte so far, with fresh ends and a fresh seat. Takes the buffers for
+    /// its frames and replies; want of memory hands source and sink back.
     pub fn new(
         alloc: Global,
         source: So,
@@ -96,11 +104,12 @@ impl<So: Source + Drop, Si: Sink + Drop, F: Drop> SessionParty<So, Si, F> {
         ends: SessionEnds<F>,
         seat: StampSeat,
     ) -> Result<SessionParty<So, Si, F>, (So, Si, NoMemory)>
-        requires { IsFresh ends }
+        requires ends { IsFresh ends }
+        requires seat { HasDrawnNone seat.view }
         ensures parts { IfOk result (λ party. (party.first.value.source ≡ source)
             × (party.first.value.sink ≡ sink) × (party.links.ends ≡ ends)
             × (party.seat ≡ seat) × (party.session ≡ party.first.value)
-            × (party.waiting ≡ false)) }
+            × (party.waiting ≡ false) × (party.lifted ≡ false)) }
         ensures err { IfErr result (λ refused. (refused.0 ≡ source) × (refused.1 ≡ sink)) }
     {
         let Ok(tasks) = ReservedList::with_room(alloc, MOST_REQUESTS) else {
@@ -126,6 +135,7 @@ impl<So: Source + Drop, Si: Sink + Drop, F: Drop> SessionParty<So, Si, F> {
             waiting: false,
             read_all: false,
             over: false,
+            lifted: false,
             seat,
             first,
         })
@@ -133,8 +143,8 @@ impl<So: Source + Drop, Si: Sink + Drop, F: Drop> SessionParty<So, Si, F> {
 
     /// Sends the messages that a ring had no place for. Then it reads a group and asks it of the
     /// workers, or takes the answers that are owed; where none is owed any more it writes the
-    /// replies. A session that has ended says so to the workers. Takes memory for the requests
-    /// alone.
+    /// replies, and answers an After that ended the group. A session that has ended says so to the
+    /// workers. Takes memory for the requests alone.
     pub fn turn(&mut self, stamps: &Stamps) -> Turn
         requires { self.old.seat.counter ≡ stamps.now }
         ensures ended { (result ≡ turn.Ended)
@@ -151,11 +161,12 @@ impl<So: Source + Drop, Si: Sink + Drop, F: Drop> SessionParty<So, Si, F> {
         // A message waits behind it only where its ring was full, as far as this end knew.
         ensures full { WaitsForPlaces self.new.links }
         ensures rings { SameRings self.old.links.ends self.new.links.ends }
-        ensures seat { self.new.seat ≡ self.old.seat }
+        ensures seat { MayStep self.old.seat self.new.seat }
+        ensures lifted { self.new.lifted ≡ self.old.lifted }
         ensures first { self.new.first.value ≡ self.old.first.value }
     {
         let pushed = self.links.push();
-        let moved = self.go_on();
+        let moved = self.go_on(stamps);
         Turn::of(self.ended(), either(pushed, moved))
     }
 
@@ -186,7 +197,8 @@ impl<So: Source + Drop, Si: Sink + Drop, F: Drop> SessionParty<So, Si, F> {
 
     /// Reads a group, or takes the answers that are owed. The answer is whether it did more than
     /// look for answers.
-    fn go_on(&mut self) -> bool
+    fn go_on(&mut self, stamps: &Stamps) -> bool
+        requires counter { self.old.seat.counter ≡ stamps.now }
         ensures waits { self.old.waiting ≡ true → WaitsFor self.old.links self.new.links
             self.old.routes self.new.waiting result }
         ensures reads { self.old.waiting ≡ false → self.old.over ≡ false
@@ -194,31 +206,34 @@ impl<So: Source + Drop, Si: Sink + Drop, F: Drop> SessionParty<So, Si, F> {
         ensures rests { self.old.over ≡ true → self.new.session ≡ self.old.session }
         ensures full { WaitsForPlaces self.old.links → WaitsForPlaces self.new.links }
         ensures rings { SameRings self.old.links.ends self.new.links.ends }
-        ensures seat { self.new.seat ≡ self.old.seat }
+        ensures seat { MayStep self.old.seat self.new.seat }
+        ensures lifted { self.new.lifted ≡ self.old.lifted }
         ensures first { self.new.first.value ≡ self.old.first.value }
     {
         if self.over {
             return true;
         }
         if self.waiting {
-            return self.wait();
+            return self.wait(stamps);
         }
-        self.read();
+        self.read(stamps);
         true
     }
 
     /// Reads a group, and asks it of the workers; where none gets a request it writes the replies.
-    fn read(&mut self)
+    fn read(&mut self, stamps: &Stamps)
+        requires counter { self.old.seat.counter ≡ stamps.now }
         requires goes_on { self.old.over ≡ false }
         requires reads { self.old.waiting ≡ false }
         ensures reads { TurnsReading self.old.session self.new.session }
         ensures full { WaitsForPlaces self.new.links }
         ensures rings { SameRings self.old.links.ends self.new.links.ends }
-        ensures seat { self.new.seat ≡ self.old.seat }
+        ensures seat { MayStep self.old.seat self.new.seat }
+        ensures lifted { self.new.lifted ≡ self.old.lifted }
         ensures first { self.new.first.value ≡ self.old.first.value }
     {
         self.ask_group();
-        self.reply_if_here();
+        self.reply_if_here(stamps);
     }
 
     /// Reads a group, and asks it of the workers.
@@ -231,6 +246,7 @@ impl<So: Source + Drop, Si: Sink + Drop, F: Drop> SessionParty<So, Si, F> {
         ensures full { WaitsForPlaces self.new.links }
         ensures rings { SameRings self.old.links.ends self.new.links.ends }
         ensures seat { self.new.seat ≡ self.old.seat }
+        ensures lifted { self.new.lifted ≡ self.old.lifted }
         ensures first { self.new.first.value ≡ self.old.first.value }
     {
         let gathered = self.session.gather(&mut self.tasks);
@@ -242,18 +258,20 @@ impl<So: Source + Drop, Si: Sink + Drop, F: Drop> SessionParty<So, Si, F> {
 
     /// Takes the answers that are owed, and where none is owed any more writes the replies. The
     /// answer is whether any came.
-    fn wait(&mut self) -> bool
+    fn wait(&mut self, stamps: &Stamps) -> bool
+        requires counter { self.old.seat.counter ≡ stamps.now }
         requires goes_on { self.old.over ≡ false }
         requires waits { self.old.waiting ≡ true }
         ensures waits { WaitsFor self.old.links self.new.links self.old.routes self.new.waiting
             result }
         ensures full { WaitsForPlaces self.old.links → WaitsForPlaces self.new.links }
         ensures rings { SameRings self.old.links.ends self.new.links.ends }
-        ensures seat { self.new.seat ≡ self.old.seat }
+        ensures seat { MayStep self.old.seat self.new.seat }
+        ensures lifted { self.new.lifted ≡ self.old.lifted }
         ensures first { self.new.first.value ≡ self.old.first.value }
     {
         let came = self.take_answers();
-        self.reply_if_here();
+        self.reply_if_here(stamps);
         came
     }
 
@@ -267,50 +285,65 @@ impl<So: Source + Drop, Si: Sink + Drop, F: Drop> SessionParty<So, Si, F> {
         ensures waits { self.new.waiting ≡ true }
         ensures full { WaitsForPlaces self.old.links → WaitsForPlaces self.new.links }
         ensures seat { self.new.seat ≡ self.old.seat }
+        ensures lifted { self.new.lifted ≡ self.old.lifted }
         ensures first { self.new.first.value ≡ self.old.first.value }
     {
         receive(&mut self.links, &mut self.routes)
     }
 
-    /// Writes the replies of the group, unless a worker's tasks are away.
-    fn reply_if_here(&mut self)
+    /// Writes the replies of the group, and that to an After that ended it, unless a worker's tasks
+    /// are away.
+    fn reply_if_here(&mut self, stamps: &Stamps)
+        requires counter { self.old.seat.counter ≡ stamps.now }
         requires goes_on { self.old.over ≡ false }
         requires waits { self.old.waiting ≡ true }
         ensures waits { self.new.waiting ≡ not (all_here self.old.routes.parts) }
-        ensures reading { KeepsReading self.old.session self.new.session }
+        ensures reading { KeepsBytes self.old.session self.new.session }
         ensures full { WaitsForPlaces self.old.links → WaitsForPlaces self.new.links }
         ensures heard { (worker : ℕ)
             → (heard_from self.new.links worker ≡ heard_from self.old.links worker)
             × (coming_from self.new.links worker ≡ coming_from self.old.links worker) }
         ensures rings { SameRings self.old.links.ends self.new.links.ends }
-        ensures seat { self.new.seat ≡ self.old.seat }
+        ensures seat { MayStep self.old.seat self.new.seat }
+        ensures lifted { self.new.lifted ≡ self.old.lifted }
         ensures first { self.new.first.value ≡ self.old.first.value }
     {
         if self.routes.all_here() {
-            self.reply();
+            self.reply(stamps);
             self.say_bye();
         }
     }
 
-    /// Writes the replies of the group, of which no worker's tasks are away.
-    fn reply(&mut self)
+    /// Writes the replies of the group, of which no worker's tasks are away, and then that to an
+    /// After that ended it.
+    fn reply(&mut self, stamps: &Stamps)
+        requires counter { self.old.seat.counter ≡ stamps.now }
         requires goes_on { self.old.over ≡ false }
         requires waits { self.old.waiting ≡ true }
         requires here { all_here self.old.routes.parts ≡ true }
-        ensures reading { KeepsReading self.old.session self.new.session }
+        ensures reading { KeepsBytes self.old.session self.new.session }
         ensures waits { self.new.waiting ≡ false }
         ensures links { self.new.links ≡ self.old.links }
         ensures here { all_here self.new.routes.parts ≡ true }
-        ensures seat { self.new.seat ≡ self.old.seat }
+        ensures seat { MayStep self.old.seat self.new.seat }
+        ensures lifted { self.new.lifted ≡ self.old.lifted }
         ensures first { self.new.first.value ≡ self.old.first.value }
     {
-        // Each request of a group has a reply, and so is about a key.
-        groups_hold_requests();
         self.routes.merge(&mut self.tasks);
         self.seen = greatest(self.tasks.as_slice(), self.seen);
         self.waiting = false;
         let whole = self.session.deliver(&mut self.tasks);
         self.over = ends(self.read_all, whole);
+        match next_after(&mut self.session, self.over) {
+            None => {}
+            Some(stamp) => {
+                let (reply, seen) = answer(stamps, &mut self.seat, self.seen, stamp);
+                self.seen = seen;
+                self.tasks.append(told(reply)).unwrap();
+                let all = self.session.deliver(&mut self.tasks);
+                self.over = !all;
+            }
+        }
     }
 
     /// Tells the workers where the session has ended.
@@ -324,6 +357,7 @@ impl<So: Source + Drop, Si: Sink + Drop, F: Drop> SessionParty<So, Si, F> {
             × (coming_from self.new.links worker ≡ coming_from self.old.links worker) }
         ensures rings { SameRings self.old.links.ends self.new.links.ends }
         ensures seat { self.new.seat ≡ self.old.seat }
+        ensures lifted { self.new.lifted ≡ self.old.lifted }
         ensures first { self.new.first.value ≡ self.old.first.value }
     {
         if self.over {
@@ -340,7 +374,9 @@ impl<So: Source + Drop, Si: Sink + Drop, F: Drop> SessionParty<So, Si, F> {
         ensures kept { (self.new.session ≡ self.old.session) × (self.new.links ≡ self.old.links)
             × (self.new.waiting ≡ self.old.waiting)
             × (self.new.first.value ≡ self.old.first.value) }
+        ensures lifted { self.new.lifted ≡ true }
     {
+        self.lifted = true;
         stamps.raise(&mut self.seat, to);
     }
 
@@ -353,7 +389,8 @@ impl<So: Source + Drop, Si: Sink + Drop, F: Drop> SessionParty<So, Si, F> {
             × Looks self.old.seat.view next self.new.seat.view }
         ensures kept { (self.new.session ≡ self.old.session) × (self.new.links ≡ self.old.links)
             × (self.new.waiting ≡ self.old.waiting)
-            × (self.new.first.value ≡ self.old.first.value) }
+            × (self.new.first.value ≡ self.old.first.value)
+            × (self.new.lifted ≡ self.old.lifted) }
     {
         stamps.look(&mut self.seat)
     }
@@ -374,7 +411,8 @@ impl<So: Source + Drop, Si: Sink + Drop, F: Drop> SessionParty<So, Si, F> {
         ensures stays { W.Stays worker_side.old worker_side.new }
         ensures kept { (self.new.session ≡ self.old.session) × (self.new.seat ≡ self.old.seat)
             × (self.new.waiting ≡ self.old.waiting)
-            × (self.new.first.value ≡ self.old.first.value) }
+            × (self.new.first.value ≡ self.old.first.value)
+            × (self.new.lifted ≡ self.old.lifted) }
     {
         self.links.left_between(session, worker_side, worker)
     }
@@ -394,6 +432,7 @@ impl<So: Source + Drop, Si: Sink + Drop, F: Drop> SessionParty<So, Si, F> {
             waiting: _,
             read_all: _,
             over: _,
+            lifted: _,
             seat,
             first: _,
         } = self;
@@ -413,7 +452,7 @@ fn ends_reading(gathered: Gathered) -> bool
     ensures { result ≡ ends_reading gathered }
 {
     match gathered {
-        Gathered::More => false,
+        Gathered::More | Gathered::After { stamp: _ } => false,
         Gathered::Ending { cause: _ } => true,
     }
 }
@@ -423,4 +462,35 @@ fn ends(read_all: bool, whole: bool) -> bool
     ensures { result ≡ (read_all || not whole) }
 {
     read_all || !whole
+}
+
+/// The stamp of the After that ended the group, if one did and the session goes on. It is then the
+/// group that has no reply yet.
+fn next_after<So: Source + Drop, Si: Sink + Drop>(
+    session: &mut Session<So, Si>,
+    over: bool,
+) -> Option<u64>
+    ensures over { over ≡ true → (result ≡ None) × (session.new ≡ session.old) }
+    ensures goes_on { over ≡ false → (result ≡ session.old.after)
+        × (session.new ≡ after_taken session.old) }
+    ensures asks { let streams : Streams So Si = record {
+      stream = So.stream;
+      source_faults = So.faults;
+      held = Si.held;
+      sink_faults = Si.faults;
+    } in IfSome result (λ stamp. (source : So) (sink : Si) (groups : List (List Pair))
+        → HasRead streams source sink groups [] session.old
+        → HasRead streams source sink groups (After stamp ∷ []) session.new) }
+{
+    if over { None } else { session.take_after() }
+}
+
+/// A task that has its reply and nothing else.
+fn told(reply: Reply) -> Task
+    ensures { result ≡ record { request = Request.Flush; reply = Some reply } }
+{
+    Task {
+        request: Request::Flush,
+        reply: Some(reply),
+    }
 }

@@ -72,7 +72,7 @@ fn owner_for(request: &Request, workers: u32) -> u32
         Request::Put { key, value: _ } => owner(key.as_slice(), workers),
         Request::Get { key } => owner(key.as_slice(), workers),
         Request::Delete { key } => owner(key.as_slice(), workers),
-        Request::Flush => unreachable!(),
+        Request::Flush | Request::After { stamp: _ } => unreachable!(),
     }
 }
 

@@ -14,13 +14,13 @@ use kv_disk::Disk;
 /// A take that is refused leaves all that the site holds. No call but a take wants memory.
 pub trait Site {
     /// Where a session's bytes come from.
-    type In: Source + Send + Drop;
+    type In: Source + Send + Drop + 'static;
 
     /// Where a session's replies go, or a report.
-    type Out: Sink + Send + Drop;
+    type Out: Sink + Send + Drop + 'static;
 
     /// The disk of one worker.
-    type Pages: Disk + Send + Drop;
+    type Pages: Disk + Send + Drop + 'static;
 
     /// Whether sites of this type tell what they hold.
     ghost tells: { Bool };

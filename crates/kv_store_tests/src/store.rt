@@ -100,7 +100,7 @@ fn is_good(request: &Request) -> bool
     match request {
         Request::Put { key, value } => is_key(key) && class_of(key.len(), value.len()).is_some(),
         Request::Get { key } | Request::Delete { key } => is_key(key),
-        Request::Flush => false,
+        Request::Flush | Request::After { .. } => false,
     }
 }
 
@@ -113,7 +113,7 @@ fn is_own(request: &Request) -> bool
         Request::Put { key, .. } | Request::Get { key } | Request::Delete { key } => {
             owner(key.as_slice(), 1) == 0
         }
-        Request::Flush => false,
+        Request::Flush | Request::After { .. } => false,
     }
 }
 

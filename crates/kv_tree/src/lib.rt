@@ -4,6 +4,7 @@
 mod even;
 mod head;
 mod item;
+mod laws;
 mod moves;
 mod node;
 mod nodes;
@@ -13,4 +14,5 @@ mod search;
 mod split;
 mod tree;
 
+pub use laws::tree_indexes_cross_threads;
 pub use tree::TreeIndex;

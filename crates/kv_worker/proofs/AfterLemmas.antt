@@ -13,7 +13,7 @@ use Rattle.kv_base.specs.Image.{Image}
 use Rattle.kv_base.specs.declared.reply.Reply.{Reply}
 use Rattle.kv_base.specs.declared.reply.Reply.TheVariants.{Full, Unsure}
 use Rattle.kv_base.specs.declared.request.Request.{Request}
-use Rattle.kv_base.specs.declared.request.Request.TheVariants.{Put, Get, Delete, Flush}
+use Rattle.kv_base.specs.declared.request.Request.TheVariants.{Put, Get, Delete, Flush, After}
 use Rattle.kv_disk.specs.declared.disk.Disk as disks
 use Rattle.kv_index.specs.Entries.{Entries}
 use Rattle.kv_index.specs.declared.entry.Entry.{Entry}
@@ -86,6 +86,7 @@ framed-fail (Put key value) reply stamp small framed = framed-unsure stamp small
 framed-fail (Get key) reply stamp small framed = record { body = tt; size = omega arith }
 framed-fail (Delete key) reply stamp small framed = framed-unsure stamp small
 framed-fail Flush reply stamp small framed = framed
+framed-fail (After told) reply stamp small framed = framed
 
 -- the replies of a failed batch have frames
 pub framed-failed : (requests : List Request) (replies : List Reply) (stamp : ℕ)

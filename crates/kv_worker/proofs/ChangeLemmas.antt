@@ -11,7 +11,7 @@ use Rattle.std.proofs.lemmas.List.{take_more, length-take-le}
 use Rattle.std.proofs.lemmas.List.Elements.{filter-append}
 use Rattle.std.proofs.lemmas.Slice.Eq.{bytes_eq-Decides}
 use Rattle.kv_base.specs.declared.request.Request.{Request}
-use Rattle.kv_base.specs.declared.request.Request.TheVariants.{Put, Get, Delete, Flush}
+use Rattle.kv_base.specs.declared.request.Request.TheVariants.{Put, Get, Delete, Flush, After}
 use Rattle.kv_model.specs.Pairwise.{Pairwise}
 use Rattle.kv_model.specs.History.{Write}
 use Rattle.kv_model.specs.Pairs.{written}
@@ -213,6 +213,7 @@ change-is (Put key value) start all writes stamp none = by (full_class start wri
         (Some write)) e)))
 change-is (Get key) start all writes stamp none = refl
 change-is Flush start all writes stamp none = refl
+change-is (After told) start all writes stamp none = refl
 change-is (Delete key) start all writes stamp none = one-change start all (record {
   stamp = stamp;
   key = key;

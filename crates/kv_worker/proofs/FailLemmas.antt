@@ -5,7 +5,7 @@ use Rattle.std.proofs.Common.{IsSome, true≢false}
 use Rattle.std.specs.List.{AllByRecursion}
 use Rattle.std.proofs.lemmas.List.{take_more, take_more_set, drop-set-lt, length-take-le}
 use Rattle.kv_base.specs.declared.request.Request.{Request}
-use Rattle.kv_base.specs.declared.request.Request.TheVariants.{Put, Get, Delete, Flush}
+use Rattle.kv_base.specs.declared.request.Request.TheVariants.{Put, Get, Delete, Flush, After}
 use Rattle.kv_base.specs.declared.reply.Reply.{Reply}
 use Rattle.kv_base.specs.declared.reply.Reply.TheVariants.{Found}
 use Rattle.kv_model.specs.Agreement.{told_of}
@@ -86,6 +86,7 @@ told-fails told (Put key value) stamp (Found other bytes) keyed = refl
 told-fails told (Get key) stamp (Found other bytes) keyed = refl
 told-fails told (Delete key) stamp (Found other bytes) keyed = refl
 told-fails told Flush stamp reply keyed = absurd (true≢false (sym keyed))
+told-fails told (After seen) stamp reply keyed = absurd (true≢false (sym keyed))
 told-fails told request stamp reply keyed = refl
 
 all-told-fail : (told : Bool) (requests : List Request) (replies : List Reply) (stamp : ℕ)

@@ -8,7 +8,7 @@ use Rattle.std.proofs.lemmas.Bool.{cases_Bool, cond-true, cond-false}
 use Rattle.kv_base.specs.declared.reply.Reply.{Reply}
 use Rattle.kv_base.specs.declared.reply.Reply.TheVariants.{Found, BadKey, TooLarge}
 use Rattle.kv_base.specs.declared.request.Request.{Request}
-use Rattle.kv_base.specs.declared.request.Request.TheVariants.{Put, Get, Delete, Flush}
+use Rattle.kv_base.specs.declared.request.Request.TheVariants.{Put, Get, Delete, Flush, After}
 use Rattle.kv_model.specs.Frames.{HasReplyFrame}
 use Rattle.kv_model.specs.Layout.{all_classes, class_of, is_key_length, room_of}
 use Rattle.kv_slot.proofs.AgainLemmas.{room_limit}
@@ -98,6 +98,7 @@ written-fits requests task value good is = by (slice_get requests task) refl is
     by (Some (Get key)) e h = absurd (cc)
     by (Some (Delete key)) e h = absurd (cc)
     by (Some Flush) e h = absurd (cc)
+    by (Some (After stamp)) e h = absurd (cc)
 
 -- a value that is found has a frame
 pub framed-found : (stamp : ℕ) (value : List ℕ) → stamp < 2 ^ 64 → length value ≤ 65400

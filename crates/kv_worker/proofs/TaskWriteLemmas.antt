@@ -5,7 +5,7 @@ use Rattle.std.proofs.Common.{length, true≢false, arith}
 use Rattle.std.specs.List.{AllByRecursion}
 use Rattle.kv_base.specs.Partition.{owner_of}
 use Rattle.kv_base.specs.declared.request.Request.{Request}
-use Rattle.kv_base.specs.declared.request.Request.TheVariants.{Put, Get, Delete, Flush}
+use Rattle.kv_base.specs.declared.request.Request.TheVariants.{Put, Get, Delete, Flush, After}
 use Rattle.kv_model.specs.Batch.{IsTask, Start, accepted, accepted_writes, behind, full_class}
 use Rattle.kv_model.specs.Batch.{changes_something, last_writes, net}
 use Rattle.kv_model.specs.History.{Write}
@@ -85,6 +85,7 @@ own-write worker workers (Delete key) task owned stamp write is =
       fits = λ bytes same. absurd (none-some bytes same);
     })
 own-write worker workers Flush task owned stamp write is = absurd (none-some write is)
+own-write worker workers (After told) task owned stamp write is = absurd (none-some write is)
 
 -- what holds of each write of a request holds of what is accepted of it
 accepted-one : (P : Write → Type 0) (request : Request) (start : Start) (writes : List Write)
@@ -101,6 +102,7 @@ accepted-one P (Get key) start writes stamp each = tt
 accepted-one P (Delete key) start writes stamp each =
     (each stamp (record { stamp = stamp; key = key; value = None }) refl, tt)
 accepted-one P Flush start writes stamp each = tt
+accepted-one P (After told) start writes stamp each = tt
 
 accepted-all : (P : Write → Type 0) (requests : List Request) (start : Start) (writes : List Write)
     (stamp : ℕ)

@@ -4,7 +4,7 @@ use Rattle.std.specs.Prelude.{if◌then◌else◌, nat_le, option_and_then, slic
 use Rattle.std.specs.List.{AllByRecursion}
 use Rattle.kv_base.specs.declared.reply.Reply.{Reply}
 use Rattle.kv_base.specs.declared.request.Request.{Request}
-use Rattle.kv_base.specs.declared.request.Request.TheVariants.{Put, Get, Delete, Flush}
+use Rattle.kv_base.specs.declared.request.Request.TheVariants.{Put, Get, Delete, Flush, After}
 use Rattle.kv_model.specs.Agreement.{refusal_of, told_of}
 use Rattle.kv_model.specs.Batch.{Start, accepted_writes, answers, behind, last_write, needs_slot}
 use Rattle.kv_model.specs.Batch.{reply_of, taken_by_others}
@@ -30,6 +30,7 @@ value_of_request (Put key value) = Some value
 value_of_request (Get key) = None
 value_of_request (Delete key) = None
 value_of_request Flush = None
+value_of_request (After stamp) = None
 
 -- the value that the request with this number writes
 abbrev pub value_written : List Request → ℕ → Option (List ℕ)

@@ -111,7 +111,7 @@ fn answer<'a, D: Disk, I: Index>(
             get(alloc, slabs, last, tasks, key.as_slice(), stamp)
         }
         Request::Delete { key } => Ok(delete(slabs, pass, tasks, key.as_slice(), task, stamp)?),
-        Request::Flush => Ok(Reply::BadKey),
+        Request::Flush | Request::After { .. } => Ok(Reply::BadKey),
     }
 }
 

@@ -25,7 +25,7 @@ fn fail(reply: &mut Reply, request: &Request, stamp: u64)
         }
         Request::Get { .. } => *reply = Reply::DiskFault,
         Request::Delete { .. } => *reply = Reply::Unsure { stamp },
-        Request::Flush => {}
+        Request::Flush | Request::After { .. } => {}
     }
 }
 

@@ -10,7 +10,7 @@ use Rattle.std.proofs.lemmas.List.Elements.{Contains-append_right, Contains-appe
 use Rattle.kv_base.specs.declared.reply.Reply.{Reply}
 use Rattle.kv_base.specs.declared.reply.Reply.TheVariants.{Full, Found}
 use Rattle.kv_base.specs.declared.request.Request.{Request}
-use Rattle.kv_base.specs.declared.request.Request.TheVariants.{Put, Get, Delete, Flush}
+use Rattle.kv_base.specs.declared.request.Request.TheVariants.{Put, Get, Delete, Flush, After}
 use Rattle.kv_disk.specs.declared.disk.Disk as disks
 use Rattle.kv_index.specs.declared.index.Index as indexes
 use Rattle.kv_model.proofs.AnswersLemmas.{IsAbsent, kinds, acknowledged_here, cons-is}
@@ -197,6 +197,7 @@ failed-cause limit history (Put key value) stamp reply cause = λ class e. absur
 failed-cause limit history (Get key) stamp reply cause = λ class e. absurd (none-some class e)
 failed-cause limit history (Delete key) stamp reply cause = λ class e. absurd (none-some class e)
 failed-cause limit history Flush stamp reply cause = cause
+failed-cause limit history (After told) stamp reply cause = cause
 
 failed-causes : (limit : ℕ) (history : List Write) (requests : List Request) (stamp : ℕ)
     (replies : List Reply) → AllByRecursion (HasCause limit history) replies

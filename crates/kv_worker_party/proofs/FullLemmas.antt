@@ -12,7 +12,7 @@ use Rattle.std.proofs.lemmas.List.Sums.{length-filter}
 use Rattle.kv_base.specs.declared.reply.Reply.{Reply}
 use Rattle.kv_base.specs.declared.reply.Reply.TheVariants.{Full}
 use Rattle.kv_base.specs.declared.request.Request.{Request}
-use Rattle.kv_base.specs.declared.request.Request.TheVariants.{Put, Get, Delete, Flush}
+use Rattle.kv_base.specs.declared.request.Request.TheVariants.{Put, Get, Delete, Flush, After}
 use Rattle.kv_model.proofs.NetLemmas.{All-last_writes, All-filter, DifferentKeys-last_writes}
 use Rattle.kv_model.proofs.NetLemmas.{DifferentKeys-filter}
 use Rattle.kv_model.proofs.PairwiseLemmas.{All-append, All-map, All-front, Pairwise-append}
@@ -253,6 +253,8 @@ full-reply (Delete key) start history writes stamp stocked within class e =
     by None f = none-some class f
     by (Some value) f = none-some class f
 full-reply Flush start history writes stamp stocked within class e = absurd (none-some class e)
+full-reply (After told) start history writes stamp stocked within class e =
+    absurd (none-some class e)
 
 -- the writes so far are the first of those that the batch accepts
 accepted-front : (requests : List Request) (start : Start) (writes : List Write) (stamp : ℕ)

@@ -8,11 +8,12 @@ use Rattle.std.proofs.lemmas.Bool.{and_parts}
 use Rattle.std.proofs.lemmas.List.{length-map, get_or_past, nil_from_length}
 use Rattle.std.proofs.Math.Logic.{∥∥₁_map}
 use Rattle.kv_base.proofs.CrashLemmas.{started as begun}
+use Rattle.kv_base.specs.Crash.{LeavesOnly}
 use Rattle.kv_base.specs.Image.{Image}
 use Rattle.kv_model.proofs.AgreementLemmas.{value-same}
 use Rattle.kv_model.specs.Items.{FollowsHistory, SameValue, class_with}
 use Rattle.kv_model.specs.Layout.{all_classes}
-use Rattle.kv_model.specs.Pairs.{pairs_in, stamps}
+use Rattle.kv_model.specs.Pairs.{Pair, pairs_in, stamps, writes}
 use Rattle.kv_model.specs.Recovery.{RecoversPrefix}
 use Rattle.kv_parties.specs.Groups.{Answers}
 use Rattle.kv_parties.specs.Messages.{groups_in, answered_in, all_asking, IsPartOf, IsWhole}
@@ -20,8 +21,10 @@ use Rattle.kv_parties.specs.Causes.{KeepsCauses, all_writes}
 use Rattle.kv_parties.specs.Workers.{done_pairs, done_for}
 use Rattle.kv_parties.specs.Stamps.{HasDrawnNone, IsMet, size_of}
 use Rattle.kv_stamps.specs.Ranges.{among}
+use Rattle.kv_stamps.specs.Steps.{Looks, Raises}
 use Rattle.kv_worker_party.specs.Laws.{PartyLaws}
-use Rattle.kv_worker_party.specs.Party.{BeginsWith, Holds, LeavesEach, AlwaysGoesOn, answers_to, setting_of}
+use Rattle.kv_worker_party.specs.Party.{BeginsWith, Holds, LeavesEach, AlwaysGoesOn, answers_to}
+use Rattle.kv_worker_party.specs.Party.{setting_of}
 use Rattle.kv_worker_party.proofs.StampedLemmas.{has-weaker}
 use Rattle.kv_worker_party.proofs.TurnLemmas.{holds-turn, leaves-prefixes}
 use Rattle.kv_base.specs.Reserved.{Reserved}
@@ -32,7 +35,7 @@ use Rattle.kv_index.specs.declared.index.Index as indexes
 use Rattle.kv_model.proofs.PairwiseLemmas.{All-map}
 use Rattle.kv_model.specs.Frames.{HasReplyFrame}
 use Rattle.kv_model.specs.History.{Write}
-use Rattle.kv_ring.specs.Ends.{peers, received_from, Looked, IsFresh}
+use Rattle.kv_ring.specs.Ends.{peers, sent_to, received_from, Looked, IsFresh}
 use Rattle.kv_ring.specs.declared.ends.Ends.{Ends}
 use Rattle.kv_ring.specs.declared.message.Answer.{Answer}
 use Rattle.kv_ring.specs.declared.message.Answer.TheVariants as answer
@@ -59,6 +62,7 @@ use Rattle.kv_worker.specs.Worker.{WorkerView, start_of}
 use Rattle.kv_groups.proofs.GatherLemmas.{or-false, or-assoc}
 use Rattle.kv_worker_party.proofs.BatchedLemmas.{in_hand-all, regroup, all-many, answered-at, answered-many}
 use Rattle.kv_worker_party.proofs.SeatLemmas.{Stayed, stayed, drawn-grew, met-stayed}
+use Rattle.kv_worker_party.proofs.SeatLemmas.{raised-stayed, looked-stayed}
 use Rattle.kv_groups.proofs.TakeLemmas.{is-taken}
 use Rattle.kv_worker_party.proofs.TurnLemmas.{open-asked, tasks-at}
 
@@ -412,7 +416,7 @@ pub goes-from : {D I F : Type 0} (laws : PartyLaws) (d : disks.Ghosts D) (i : in
     → Turns d i old now ends new connections after view later turn
     → (before : List Write) → BeginsWith d i first before (view.start - 1)
     → AlwaysGoesOn d i view.start (peers ends) first old now ends new connections after view later
-    lifted before
+    lifted lifted before
 goes-from {D = D} {I = I} {F = F} laws d i first old now ends new connections after view later lifted
     turn started t before begins = λ h.
     holds-turn laws d i view.start (peers ends) first old now ends new connections after view
@@ -441,22 +445,48 @@ goes-on {D = D} {I = I} {F = F} laws d i first old now ends new connections afte
     (goes-from laws d i first old now ends new connections after view later lifted turn started t
     before was h).holds)
 
+-- what a crash leaves now holds all that was answered
+left-now : {D : Type 0} (d : disks.Ghosts D) (worker workers : ℕ) (first now : D)
+    (before : List Write) (pairs : List Pair) → LeavesEach d worker workers first now before pairs
+    → LeavesOnly (d.calls now) (d.calls now) (d.leaves now) (d.leaves now)
+    (λ image. RecoversPrefix all_classes (all_writes before pairs) (before ++ writes pairs) image
+    worker workers)
+left-now d worker workers first now before pairs leaves = begun (d.calls now) (d.leaves now)
+    (λ image. RecoversPrefix all_classes (all_writes before pairs) (before ++ writes pairs) image
+    worker workers) leaves.exit
+
 -- a seat that only looked, or was raised from outside, which is noted
 pub record Lifts (view later : View) (lifted raised : Bool) : Type 0 where
   pub stays : Stayed view later
   pub spent : later.spent ≡ view.spent
   pub gaps : raised ≡ false → (lifted ≡ false) × (later.gaps ≡ view.gaps)
 
--- the promise stays where only the seat looked or was raised
+pub raised-lifts : (to next : ℕ) (view later : View) (lifted : Bool) → Raises to view next later
+    → Lifts view later lifted true
+raised-lifts to next view later lifted raises = record {
+  stays = raised-stayed to next view later raises;
+  spent = ap (λ (v : View). v.spent) raises.view;
+  gaps = λ is. absurd (true≢false is);
+}
+
+pub looked-lifts : (next : ℕ) (view later : View) (lifted : Bool) → Looks view next later
+    → Lifts view later lifted lifted
+looked-lifts next view later lifted looks = record {
+  stays = looked-stayed next view later looks;
+  spent = ap (λ (v : View). v.spent) looks.view;
+  gaps = λ is. (is, ap (λ (v : View). v.gaps) looks.view);
+}
+
+-- the promise goes on where only the seat looked or was raised
 pub goes-later : {D I F : Type 0} (d : disks.Ghosts D) (i : indexes.Ghosts I)
     (start sessions : ℕ) (first now : WorkerView D I) (ends : Ends (Answer F) (Ask F) 8)
     (connections : List (Connection F)) (view later : View) (lifted raised : Bool)
-    (before : List Write)
-    → Holds d i start sessions first now ends connections view lifted before
-    → Lifts view later lifted raised
-    → Holds d i start sessions first now ends connections later raised before
-goes-later d i start sessions first now ends connections view later lifted raised before h lifts =
-    record {
+    → Lifts view later lifted raised → (before : List Write)
+    → AlwaysGoesOn d i start sessions first now now ends ends connections connections view later
+    lifted raised before
+goes-later d i start sessions first now ends connections view later lifted raised lifts
+    before = λ h.
+    let holds : Holds d i start sessions first now ends connections later raised before = record {
       gaps = h.gaps;
       gaps_are = λ is. let l = lifts.gaps is in h.gaps_are l.0 ∙ sym l.1;
       promise = record {
@@ -504,6 +534,14 @@ goes-later d i start sessions first now ends connections view later lifted raise
       sure = h.sure;
       leaves = h.leaves;
       same = h.same;
+    } in
+    record {
+      holds = holds;
+      more = [];
+      longer = sym (append-nil h.promise.groups.history);
+      stays = λ acks acked image was. was;
+      moments = left-now d first.store.worker first.store.workers first.store.disk.disk
+          now.store.disk.disk before (done_pairs h.promise.groups.history) h.leaves;
     }
 
 pub later-promise : {D I F : Type 0} (d : disks.Ghosts D) (i : indexes.Ghosts I)
@@ -521,25 +559,25 @@ later-promise d i first now ends connections view later lifted raised lifts prom
     subst (λ m. Holds d i m (peers ends) first now ends connections later raised before)
     (sym lifts.stays.start)
     (goes-later d i view.start (peers ends) first now ends connections view later lifted raised
-    before h lifts))
+    lifts before h).holds)
 
--- the promise stays where the ends only looked
-pub looked-promise : {D I F : Type 0} (d : disks.Ghosts D) (i : indexes.Ghosts I)
-    (start : ℕ) (first now : WorkerView D I) (ends new : Ends (Answer F) (Ask F) 8) (peer : ℕ)
-    (connections : List (Connection F)) (view : View) (lifted : Bool) (before : List Write)
-    → Looked peer ends new
-    → ∥ Holds d i start (peers ends) first now ends connections view lifted before ∥₁
-    → ∥ Holds d i start (peers new) first now new connections view lifted before ∥₁
-looked-promise {F = F} d i start first now ends new peer connections view lifted before looked promise =
-    ∥∥₁_map promise (λ (h : Holds d i start (peers ends) first now ends connections view lifted before).
-    subst (λ n. Holds d i start n first now new connections view lifted before) (sym looked.rings.peers)
-    (record {
+-- the promise goes on where the ends only looked
+pub looked-goes : {D I F : Type 0} (d : disks.Ghosts D) (i : indexes.Ghosts I)
+    (start sessions : ℕ) (first now : WorkerView D I) (ends new : Ends (Answer F) (Ask F) 8)
+    (connections : List (Connection F)) (view : View) (lifted : Bool)
+    → ((s : ℕ) → sent_to new s ≡ sent_to ends s)
+    → ((s : ℕ) → received_from new s ≡ received_from ends s) → (before : List Write)
+    → AlwaysGoesOn d i start sessions first now now ends new connections connections view view lifted
+    lifted before
+looked-goes {F = F} d i start sessions first now ends new connections view lifted sent received
+    before = λ h.
+    let holds : Holds d i start sessions first now new connections view lifted before = record {
       gaps = h.gaps;
       gaps_are = h.gaps_are;
       promise = record {
         taken = h.promise.taken;
         part = λ s lt. subst (λ ms. IsPartOf (h.promise.taken s) (all_asking ms))
-            (sym (looked.received s)) (h.promise.part s lt);
+            (sym (received s)) (h.promise.part s lt);
         each = λ s lt. subst (λ given. length given ≡ length (h.promise.taken s)) (answers s)
             (h.promise.each s lt);
         whole = λ s lt. subst (AllByRecursion (IsWhole {F = F})) (answers s) (h.promise.whole s lt);
@@ -568,11 +606,31 @@ looked-promise {F = F} d i start first now ends new peer connections view lifted
       sure = h.sure;
       leaves = h.leaves;
       same = h.same;
-    }))
+    } in
+    record {
+      holds = holds;
+      more = [];
+      longer = sym (append-nil h.promise.groups.history);
+      stays = λ acks acked image was. was;
+      moments = left-now d first.store.worker first.store.workers first.store.disk.disk
+          now.store.disk.disk before (done_pairs h.promise.groups.history) h.leaves;
+    }
   where
     answers : (s : ℕ) → answers_to ends connections s ≡ answers_to new connections s
     answers s = ap (λ given. given ++ option_to_list (connection_of connections s).waiting)
-        (sym (looked.sent s))
+        (sym (sent s))
+
+pub looked-promise : {D I F : Type 0} (d : disks.Ghosts D) (i : indexes.Ghosts I)
+    (start : ℕ) (first now : WorkerView D I) (ends new : Ends (Answer F) (Ask F) 8) (peer : ℕ)
+    (connections : List (Connection F)) (view : View) (lifted : Bool) (before : List Write)
+    → Looked peer ends new
+    → ∥ Holds d i start (peers ends) first now ends connections view lifted before ∥₁
+    → ∥ Holds d i start (peers new) first now new connections view lifted before ∥₁
+looked-promise d i start first now ends new peer connections view lifted before looked promise =
+    ∥∥₁_map promise (λ (h : Holds d i start (peers ends) first now ends connections view lifted before).
+    subst (λ n. Holds d i start n first now new connections view lifted before) (sym looked.rings.peers)
+    (looked-goes d i start (peers ends) first now ends new connections view lifted looked.sent
+    looked.received before h).holds)
 
 -- the promise of a party that has done nothing yet
 pub first-promise : {D I F : Type 0} (d : disks.Ghosts D) (i : indexes.Ghosts I)

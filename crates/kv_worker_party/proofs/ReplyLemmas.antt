@@ -8,7 +8,7 @@ use Rattle.kv_base.specs.declared.reply.Reply.TheVariants.{Found}
 use Rattle.kv_base.specs.declared.reply.Reply.TheVariants.{Full}
 use Rattle.kv_base.specs.declared.reply.Reply.TheVariants.{DiskFault, Unsure, Closed, StampsSpent}
 use Rattle.kv_base.specs.declared.request.Request.{Request}
-use Rattle.kv_base.specs.declared.request.Request.TheVariants.{Put, Get, Delete, Flush}
+use Rattle.kv_base.specs.declared.request.Request.TheVariants.{Put, Get, Delete, Flush, After}
 use Rattle.kv_model.specs.Agreement.{told_of}
 use Rattle.kv_model.specs.Batch.{Start, answers, reply_of, put_reply, get_reply}
 use Rattle.kv_model.specs.Batch.{delete_reply, behind, failed_reply, failed_replies, full_class}
@@ -91,6 +91,7 @@ calm-answers (request ∷ requests) start writes stamp = (
       by None = refl
       by (Some value) = refl
   calm-answer Flush start writes stamp = refl
+  calm-answer (After told) start writes stamp = refl
 
 same-calm : (replies others : List Reply) → map is_calm replies ≡ map is_calm others
     → AllByRecursion IsCalm others → AllByRecursion IsCalm replies
@@ -118,6 +119,7 @@ served-failed (Put key value) stamp reply served = refl
 served-failed (Get key) stamp reply served = refl
 served-failed (Delete key) stamp reply served = refl
 served-failed Flush stamp reply served = served
+served-failed (After told) stamp reply served = served
 
 -- where a write failed the store was open, and had stamps
 pub served-replies : (requests : List Request) (stamp : ℕ) (replies : List Reply)

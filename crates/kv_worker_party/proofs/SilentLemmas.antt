@@ -5,7 +5,7 @@ use Rattle.std.specs.List.{AllByRecursion}
 use Rattle.kv_base.specs.declared.reply.Reply.{Reply}
 use Rattle.kv_base.specs.declared.reply.Reply.TheVariants.{NoMemory, DiskFault, Closed, StampsSpent}
 use Rattle.kv_base.specs.declared.request.Request.{Request}
-use Rattle.kv_base.specs.declared.request.Request.TheVariants.{Put, Get, Delete, Flush}
+use Rattle.kv_base.specs.declared.request.Request.TheVariants.{Put, Get, Delete, Flush, After}
 use Rattle.kv_model.specs.Agreement.{IsMapAnswer, IsRefusal, WithRefusals}
 use Rattle.kv_model.specs.Batch.{IsTask}
 use Rattle.kv_model.specs.BatchLaws.{pairs_of}
@@ -59,6 +59,7 @@ no_memory-may told = (refl, may)
     may history (Get key) keyed = tt
     may history (Delete key) keyed = tt
     may history Flush keyed = absurd (true≢false (sym keyed))
+    may history (After seen) keyed = absurd (true≢false (sym keyed))
 
 pub disk_fault-may : (told : Bool) → MayRefuse told DiskFault
 disk_fault-may told = (refl, may)
@@ -69,6 +70,7 @@ disk_fault-may told = (refl, may)
     may history (Get key) keyed = tt
     may history (Delete key) keyed = tt
     may history Flush keyed = absurd (true≢false (sym keyed))
+    may history (After seen) keyed = absurd (true≢false (sym keyed))
 
 pub closed-may : (told : Bool) → MayRefuse told Closed
 closed-may told = (refl, may)
@@ -79,6 +81,7 @@ closed-may told = (refl, may)
     may history (Get key) keyed = tt
     may history (Delete key) keyed = tt
     may history Flush keyed = absurd (true≢false (sym keyed))
+    may history (After seen) keyed = absurd (true≢false (sym keyed))
 
 pub spent-may : (told : Bool) (number : ℕ) → MayRefuse told (StampsSpent number)
 spent-may told number = (refl, may)
@@ -89,6 +92,7 @@ spent-may told number = (refl, may)
     may history (Get key) keyed = tt
     may history (Delete key) keyed = tt
     may history Flush keyed = absurd (true≢false (sym keyed))
+    may history (After seen) keyed = absurd (true≢false (sym keyed))
 
 -- a pair without a stamp
 abbrev pub IsSilent : Pair → Type 0

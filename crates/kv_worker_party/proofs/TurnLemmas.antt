@@ -3,7 +3,9 @@ use Rattle.std.proofs.Common.{◌≡◌, ◌⊎◌, inl, inr, ⊎_elim, ℕ, zer
 use Rattle.std.proofs.Common.{List, [], ◌∷◌, ◌++◌, map, length, Option, None, Some, Bool, true, false}
 use Rattle.std.proofs.Common.{refl, sym, ap, subst, subst₂, ◌∙◌, arith, append-nil}
 use Rattle.std.proofs.Common.{length-append, All, Contains}
-use Rattle.std.specs.Prelude.{option_to_list, if◌then◌else◌}
+use Rattle.std.specs.Prelude.{option_to_list, if◌then◌else◌, IsSome, IfSome, IsSomeAnd}
+use Rattle.std.proofs.lemmas.Bool.{true≢false}
+use Rattle.kv_base.specs.Partition.{owner_of}
 use Rattle.std.specs.List.{AllByRecursion}
 use Rattle.std.proofs.lemmas.Grind.{merely}
 use Rattle.std.proofs.lemmas.List.{length-map}
@@ -25,7 +27,7 @@ use Rattle.kv_model.specs.BatchLaws.{pairs_of}
 use Rattle.kv_model.specs.History.{Write}
 use Rattle.kv_model.specs.Items.{FollowsHistory}
 use Rattle.kv_model.specs.Layout.{all_classes}
-use Rattle.kv_model.specs.Pairs.{Pair, pairs_in, stamps, writes, unsure_writes}
+use Rattle.kv_model.specs.Pairs.{Pair, key_of, pairs_in, stamps, writes, unsure_writes}
 use Rattle.kv_model.specs.Pairwise.{Pairwise}
 use Rattle.kv_model.specs.Recovery.{RecoversPrefix}
 use Rattle.kv_parties.specs.Causes.{KeepsCauses, all_writes}
@@ -206,14 +208,21 @@ good-requests worker workers [] all = tt
 good-requests worker workers (item ∷ items) all =
     (all.0.task, good-requests worker workers items all.1)
 
+some-and : {X : Type 0} (o : Option X) (P : X → Type 0) → IsSome o → IfSome o P → IsSomeAnd o P
+some-and None P some has = absurd (true≢false (sym some))
+some-and (Some x) P some has = has
+
 owned-pairs : (worker workers : ℕ) (items : List (ℕ × Task)) (replies : List Reply)
     → AllByRecursion (IsOpenTask worker workers) items
     → AllByRecursion (λ pair. IsOwned workers worker pair.request)
     (pairs_of (requests_in items) replies)
 owned-pairs worker workers [] replies all = tt
 owned-pairs worker workers (item ∷ items) [] all = tt
-owned-pairs worker workers (item ∷ items) (reply ∷ replies) all =
-    (all.0.owned, owned-pairs worker workers items replies all.1)
+owned-pairs worker workers (item ∷ items) (reply ∷ replies) all = (
+  some-and (key_of item.1.request) (λ key. owner_of key workers ≡ worker) all.0.task.keyed
+      all.0.owned,
+  owned-pairs worker workers items replies all.1,
+)
 
 -- what a crash leaves at each moment, as one fact for each image
 pub leaves-prefixes : {D : Type 0} (d : disks.Ghosts D) (setting : Setting) (worker : ℕ)
@@ -238,7 +247,8 @@ pub holds-turn : {D I F : Type 0} (laws : PartyLaws) (d : disks.Ghosts D) (i : i
     → (1 ≤ start) × (start ≤ view.seen)
     → AllByRecursion (λ write. write.stamp < view.seen) before → peers ends ≡ sessions
     → Turns d i old now ends new connections after view later turn
-    → GoesOn d i start sessions first old now ends new connections after view later lifted before h
+    → GoesOn d i start sessions first old now ends new connections after view later lifted lifted
+    before h
 holds-turn {D = D} {I = I} {F = F} laws d i start sessions first old now ends new connections after view later
     turn lifted before h above earlier size t =
     let history : List Done = h.promise.groups.history in

@@ -3,3 +3,4 @@ pub mod Turns
 pub mod Laws
 pub mod Party
 pub mod Due
+pub mod Threads

@@ -102,17 +102,17 @@ pub record Holds {D I F : Type 0} (d : disks.Ghosts D) (i : indexes.Ghosts I)
   pub same : (now.store.worker ≡ first.store.worker)
       × (now.store.workers ≡ first.store.workers) × (now.store.limits ≡ first.store.limits)
 
--- the promise goes on, with more behind its history; an image that recovered a prefix of what was
--- answered before does so of all that is answered now, with the same writes acknowledged; and at each
--- moment between the two a crash leaves of each key the value after a prefix of its writes, which holds
--- all that was answered before
+-- the promise goes on, with more behind its history, and the counter lifted or not; an image that
+-- recovered a prefix of what was answered before does so of all that is answered now, with the same
+-- writes acknowledged; and at each moment between the two a crash leaves of each key the value after a
+-- prefix of its writes, which holds all that was answered before
 pub record GoesOn {D I F : Type 0} (d : disks.Ghosts D) (i : indexes.Ghosts I)
     (start sessions : ℕ) (first old now : WorkerView D I) (ends new : Ends (Answer F) (Ask F) 8)
-    (connections after : List (Connection F)) (view later : View) (lifted : Bool)
+    (connections after : List (Connection F)) (view later : View) (lifted raised : Bool)
     (before : List Write)
     (h : Holds d i start sessions first old ends connections view lifted before) :
     Type 0 where
-  pub holds : Holds d i start sessions first now new after later lifted before
+  pub holds : Holds d i start sessions first now new after later raised before
   pub more : List Done
   pub longer : holds.promise.groups.history ≡ h.promise.groups.history ++ more
   pub stays : (acknowledged : List Write)
@@ -132,7 +132,8 @@ pub record GoesOn {D I F : Type 0} (d : disks.Ghosts D) (i : indexes.Ghosts I)
 abbrev pub AlwaysGoesOn : {D I F : Type 0} → disks.Ghosts D → indexes.Ghosts I → ℕ → ℕ
     → WorkerView D I → WorkerView D I → WorkerView D I → Ends (Answer F) (Ask F) 8
     → Ends (Answer F) (Ask F) 8 → List (Connection F) → List (Connection F) → View → View → Bool
-    → List Write → Type 0
-AlwaysGoesOn d i start sessions first old now ends new connections after view later lifted before =
-    (h : Holds d i start sessions first old ends connections view lifted before)
-    → GoesOn d i start sessions first old now ends new connections after view later lifted before h
+    → Bool → List Write → Type 0
+AlwaysGoesOn d i start sessions first old now ends new connections after view later lifted raised
+    before = (h : Holds d i start sessions first old ends connections view lifted before)
+    → GoesOn d i start sessions first old now ends new connections after view later lifted raised
+    before h

@@ -5,6 +5,7 @@ mod exchange;
 mod laws;
 mod party;
 mod serve;
+mod threads;
 
 pub use laws::{due_messages_are_taken, worker_parties_cross_threads};
 pub use party::{WorkerParts, WorkerParty};

@@ -155,7 +155,7 @@ impl<D: Disk + Drop, I: Index + Drop, F: Drop> WorkerParty<D, I, F> {
             → AlwaysGoesOn ⟦<D as Disk>⟧ ⟦<I as Index>⟧ self.old.seat.view.start
             (peers self.old.ends) self.old.first.value self.old.worker self.new.worker
             self.old.ends self.new.ends self.old.connections.items self.new.connections.items
-            self.old.seat.view self.new.seat.view self.old.lifted before }
+            self.old.seat.view self.new.seat.view self.old.lifted self.new.lifted before }
         ensures ahead { StaysAhead self.old.worker self.new.worker self.old.seat.view
             self.new.seat.view }
         ensures counter { self.new.seat.counter ≡ self.old.seat.counter }
@@ -187,6 +187,11 @@ impl<D: Disk + Drop, I: Index + Drop, F: Drop> WorkerParty<D, I, F> {
             × (self.new.connections ≡ self.old.connections)
             × (self.new.first.value ≡ self.old.first.value) }
         ensures lifted { self.new.lifted ≡ true }
+        ensures goes_on { (before : List Write) → AlwaysGoesOn ⟦<D as Disk>⟧ ⟦<I as Index>⟧
+            self.old.seat.view.start (peers self.old.ends) self.old.first.value self.old.worker
+            self.new.worker self.old.ends self.new.ends self.old.connections.items
+            self.new.connections.items self.old.seat.view self.new.seat.view self.old.lifted
+            self.new.lifted before }
     {
         self.lifted = true;
         stamps.raise(&mut self.seat, to);
@@ -203,6 +208,11 @@ impl<D: Disk + Drop, I: Index + Drop, F: Drop> WorkerParty<D, I, F> {
             × (self.new.connections ≡ self.old.connections)
             × (self.new.first.value ≡ self.old.first.value)
             × (self.new.lifted ≡ self.old.lifted) }
+        ensures goes_on { (before : List Write) → AlwaysGoesOn ⟦<D as Disk>⟧ ⟦<I as Index>⟧
+            self.old.seat.view.start (peers self.old.ends) self.old.first.value self.old.worker
+            self.new.worker self.old.ends self.new.ends self.old.connections.items
+            self.new.connections.items self.old.seat.view self.new.seat.view self.old.lifted
+            self.new.lifted before }
     {
         stamps.look(&mut self.seat)
     }

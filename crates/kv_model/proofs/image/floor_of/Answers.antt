@@ -1,6 +1,5 @@
 -- The greatest of the numbers that were listed.
 use Rattle.std.proofs.Common.{List, ℕ, ◌≡◌, ap, ◌∙◌, subst}
-use Rattle.kv_base.specs.declared.place.Place.{Place}
 use Rattle.kv_model.specs.Plain.{image_of, heads_in, places_of, IsGreatest}
 use Rattle.kv_model.proofs.ReaderLemmas.{floor-is}
 use Rattle.kv_model.proofs.image.floor_of.Goals as goal

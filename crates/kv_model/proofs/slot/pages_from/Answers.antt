@@ -1,5 +1,5 @@
 -- One more page.
-use Rattle.std.proofs.Common.{ap, sym, ◌∙◌, arith, refl, ◌+◌, [], ◌∷◌, ◌++◌, map}
+use Rattle.std.proofs.Common.{ap, sym, ◌∙◌, refl, ◌+◌, [], ◌∷◌, ◌++◌, map}
 use Rattle.std.specs.List.{range_with_len}
 use Rattle.std.proofs.lemmas.List.FromFn.{map-range_with_len_more}
 use Rattle.kv_model.specs.Plain.{image_of}

@@ -1,11 +1,11 @@
 -- Each transcript in its parts: what was handled, what went out and what is left.
 use Rattle.std.proofs.Common.{[], ◌∷◌, refl, arith, inl}
 use Rattle.std.proofs.Common.{inr}
-use Rattle.kv_base.specs.declared.request.Request.TheVariants.{Put, Flush}
+use Rattle.kv_base.specs.declared.request.Request.TheVariants.{Put, Flush, After}
 use Rattle.kv_base.specs.declared.reply.Reply.TheVariants.{Stored, Found, Missing, BadKey}
-use Rattle.kv_base.specs.declared.reply.Reply.TheVariants.{Malformed}
+use Rattle.kv_base.specs.declared.reply.Reply.TheVariants.{Malformed, Noted, Ahead}
 use Rattle.kv_base.specs.declared.cause.Cause.TheVariants.{End}
-use Rattle.kv_model.specs.Examples.{put_a, get_a, value_1}
+use Rattle.kv_model.specs.Examples.{put_a, get_a, value_1, after_1_bytes}
 use Rattle.kv_model.proofs.FrameLemmas.{BeginsWithNoRequest-partial}
 use Rattle.kv_model_tests.proofs.model.sessions_have_their_transcripts.Goals as goal
 
@@ -125,9 +125,52 @@ returns-clause-sink_fails_before c = record {
   };
   grouped = refl;
   framed = (record { body = omega arith; size = omega arith }, tt);
-  closes = inl (record { whole = refl; nothing = refl; most = omega arith });
+  closes = inl (record { whole = inl refl; nothing = refl; most = omega arith });
   out = ([], [], refl, refl, (_, omega arith, refl));
   leaves = omega arith;
+}
+
+pub returns-clause-sink_fails_before_after : goal.returns-clause-sink_fails_before_after
+returns-clause-sink_fails_before_after c = record {
+  handled = put_a ∷ [];
+  rest = after_1_bytes;
+  closing = [];
+  fronts = record { parts = refl; each = (record { body = omega arith; size = omega arith }, tt) };
+  grouped = refl;
+  framed = (record { body = omega arith; size = omega arith }, tt);
+  closes = inl (record {
+    whole = inr (record {
+      stamp = 1;
+      behind = [];
+      begins = record { has = record { body = omega arith; size = omega arith }; parts = refl };
+    });
+    nothing = refl;
+    most = omega arith;
+  });
+  out = ([], [], refl, refl, (_, omega arith, refl));
+  leaves = omega arith;
+}
+
+pub returns-clause-told : goal.returns-clause-told
+returns-clause-told c = record {
+  handled = After 0 ∷ After 1 ∷ [];
+  rest = [];
+  closing = [];
+  fronts = record {
+    parts = refl;
+    each = (
+      record { body = omega arith; size = omega arith },
+      (record { body = omega arith; size = omega arith }, tt),
+    );
+  };
+  grouped = refl;
+  framed = (
+    record { body = tt; size = omega arith },
+    (record { body = omega arith; size = omega arith }, tt),
+  );
+  closes = (refl, refl, refl);
+  out = (Noted ∷ Ahead 1 ∷ [], [], refl, refl, refl);
+  leaves = refl;
 }
 
 pub returns-clause-goes_on : goal.returns-clause-goes_on
@@ -144,7 +187,7 @@ returns-clause-goes_on c = record {
       ),
     );
   };
-  whole = refl;
+  whole = inl refl;
   grouped = refl;
   framed = (
     record { body = omega arith; size = omega arith },

@@ -8,5 +8,6 @@ invariant-loop l = record {
   no_others : l.others.items ≡ [];
   others_room : 64 ≤ l.others.spare;
   reads : l.session.closing ≡ None;
+  told : l.session.after ≡ None;
   goes_on : l.session.ending ≡ None;
 }

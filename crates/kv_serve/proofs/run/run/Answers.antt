@@ -15,7 +15,11 @@ loop-alloc-init g c =
     } in (
       (
         [],
-        (new-session streams c.args.session.now c.requires.new, c.requires.new.reads),
+        (
+          new-session streams c.args.session.now c.requires.new,
+          c.requires.new.reads,
+          c.requires.new.none_after,
+        ),
         λ before floor begins. begins-run g.D.Disk g.I.Index c.args.worker.now c.args.counter.now
             before floor begins c.requires.counter,
       ),

@@ -1,7 +1,7 @@
 use Rattle.std.proofs.Common.{arith}
 use Rattle.kv_session.proofs.GroupLemmas.{GathersUpTo-none, GathersUpTo-more, GathersUpTo-spare}
-use Rattle.kv_session.proofs.GroupLemmas.{gathers-over, gathers-flush}
-use Rattle.kv_session.proofs.GroupLemmas.{progress-flush, progress-whole}
+use Rattle.kv_session.proofs.GroupLemmas.{gathers-over, gathers-flush, gathers-after}
+use Rattle.kv_session.proofs.GroupLemmas.{gathers-whole, progress-flush, progress-whole}
 use Rattle.kv_session.proofs.group.read_group.Goals as goal
 
 pub loop-init : goal.loop-init
@@ -15,7 +15,7 @@ take_front-requires-clause-room g c =
 pub loop-preserved : goal.loop-preserved
 loop-preserved g c =
     let p = c.in-None.ensures in
-    let takes = c.if-take_front.ensures in
+    let takes = c.in-Keyed.ensures in
     GathersUpTo-more _ _ _ _ _ _ _ _ _ _ c.loop.invariant c.loop-test.true p.arrives p.counted
     p.spent p.limit takes.0 takes.2.0 takes.1 takes.2.1 takes.2.2
 
@@ -37,10 +37,10 @@ pub returns-in-Some-clause-spare : goal.returns-in-Some-clause-spare
 returns-in-Some-clause-spare g c = (GathersUpTo-spare _ _ _ _ _ _ _ c.loop.invariant).0
 
 -- a Flush came
-pub returns-then-take_front-clause-group : goal.returns-then-take_front-clause-group
-returns-then-take_front-clause-group g c =
+pub returns-in-Flush-clause-group : goal.returns-in-Flush-clause-group
+returns-in-Flush-clause-group g c =
     let inv = c.loop.invariant in
-    let takes = c.if-take_front.ensures in
+    let takes = c.in-Flush.ensures in
     rw takes.3 (
       inv.asked,
       inv.taken,
@@ -48,22 +48,58 @@ returns-then-take_front-clause-group g c =
           c.in-None.ensures.arrives takes.0 takes.1 takes.2,
     )
 
-pub returns-then-take_front-clause-progress : goal.returns-then-take_front-clause-progress
-returns-then-take_front-clause-progress g c = λ none.
-    let takes = c.if-take_front.ensures in
+pub returns-in-Flush-clause-progress : goal.returns-in-Flush-clause-progress
+returns-in-Flush-clause-progress g c = λ none.
+    let takes = c.in-Flush.ensures in
     progress-flush _ _ _ _ _ _ _ _ c.loop.tasks _ c.loop.invariant c.loop-test.true
     c.in-None.ensures.arrives takes.0 takes.1
 
-pub returns-then-take_front-clause-most : goal.returns-then-take_front-clause-most
-returns-then-take_front-clause-most g c =
-    rw c.if-take_front.ensures.3
+pub returns-in-Flush-clause-most : goal.returns-in-Flush-clause-most
+returns-in-Flush-clause-most g c =
+    rw c.in-Flush.ensures.3
     (omega (arith, (GathersUpTo-spare _ _ _ _ _ _ _ c.loop.invariant).1, c.loop-test.true))
 
-pub returns-then-take_front-clause-spare : goal.returns-then-take_front-clause-spare
-returns-then-take_front-clause-spare g c =
-    rw c.if-take_front.ensures.3 (GathersUpTo-spare _ _ _ _ _ _ _ c.loop.invariant).0
+pub returns-in-Flush-clause-spare : goal.returns-in-Flush-clause-spare
+returns-in-Flush-clause-spare g c =
+    rw c.in-Flush.ensures.3 (GathersUpTo-spare _ _ _ _ _ _ _ c.loop.invariant).0
+
+-- an After came
+pub returns-in-After-clause-group : goal.returns-in-After-clause-group
+returns-in-After-clause-group g c =
+    let inv = c.loop.invariant in
+    let takes = c.in-After.ensures in
+    rw takes.3 (
+      inv.asked,
+      inv.taken,
+      gathers-after _ _ _ _ _ _ _ _ c.loop.tasks _ inv c.loop-test.true
+          c.in-None.ensures.arrives _ takes.0 takes.1 takes.2,
+    )
+
+pub returns-in-After-clause-progress : goal.returns-in-After-clause-progress
+returns-in-After-clause-progress g c = λ none.
+    let takes = c.in-After.ensures in
+    progress-flush _ _ _ _ _ _ _ _ c.loop.tasks _ c.loop.invariant c.loop-test.true
+    c.in-None.ensures.arrives takes.0 takes.1
+
+pub returns-in-After-clause-most : goal.returns-in-After-clause-most
+returns-in-After-clause-most g c =
+    rw c.in-After.ensures.3
+    (omega (arith, (GathersUpTo-spare _ _ _ _ _ _ _ c.loop.invariant).1, c.loop-test.true))
+
+pub returns-in-After-clause-spare : goal.returns-in-After-clause-spare
+returns-in-After-clause-spare g c =
+    rw c.in-After.ensures.3 (GathersUpTo-spare _ _ _ _ _ _ _ c.loop.invariant).0
 
 -- the last request was read
+pub returns-clause-group : goal.returns-clause-group
+returns-clause-group g c =
+    let inv = c.loop.invariant in (
+      inv.asked,
+      inv.taken,
+      gathers-whole _ _ _ _ _ c.loop.tasks _ inv
+          (omega (arith, c.loop-test.false, c.loop.auto.counter-end)),
+    )
+
 pub returns-clause-progress : goal.returns-clause-progress
 returns-clause-progress g c = λ none.
     progress-whole _ _ _ _ _ c.loop.tasks _ c.loop.invariant (omega (arith, c.loop-test.false))

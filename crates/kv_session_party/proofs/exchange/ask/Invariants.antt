@@ -1,4 +1,3 @@
-use Rattle.std.proofs.Common.{length}
 use Rattle.kv_session_party.proofs.ExchangeLemmas.{AsksUpTo}
 use Rattle.kv_session_party.proofs.exchange.ask.Given as goal
 

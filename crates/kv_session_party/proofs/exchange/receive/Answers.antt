@@ -1,4 +1,4 @@
-use Rattle.std.proofs.Common.{◌≡◌, ◌+◌, sym, subst, arith}
+use Rattle.std.proofs.Common.{◌+◌, sym, subst, arith}
 use Rattle.kv_session_party.proofs.ExchangeLemmas.{ReceivesUpTo, ReceivesUpTo-none}
 use Rattle.kv_session_party.proofs.ExchangeLemmas.{ReceivesUpTo-more, ReceivesUpTo-all}
 use Rattle.kv_session_party.proofs.exchange.receive.Goals as goal

@@ -22,7 +22,14 @@ returns-in-None-clause-delivered g c source sink groups asked replies each are r
     let ending = ap (λ (s : State). s.ending) c.self.view_is ∙ c.requires.goes_on in
     Delivers-sent streams source sink groups asked replies _ c.args.self.now _ c.load.new.self.items
     left p.sent.0 c.send-whole.result c.self.view_is each read
-    (record { source = refl; waiting = refl; taken = refl; ended = refl; closing = refl })
+    (record {
+      source = refl;
+      waiting = refl;
+      taken = refl;
+      ended = refl;
+      closing = refl;
+      after = refl;
+    })
     (c.load.ensures.items replies are) c.load.ensures.framed p.sent.1 p.sent.2 p.all p.some
     p.counted
     (subst (λ (cause : Option Cause). EndsAs cause left c.self.inside.reader.taken
@@ -46,7 +53,14 @@ returns-in-Some-clause-delivered g c source sink groups asked replies each are r
     } in
     Delivers-sent streams source sink groups asked replies _ c.args.self.now _ c.load.new.self.items
     left p.sent.0 c.send-whole.result c.self.view_is each read
-    (record { source = refl; waiting = refl; taken = refl; ended = refl; closing = refl })
+    (record {
+      source = refl;
+      waiting = refl;
+      taken = refl;
+      ended = refl;
+      closing = refl;
+      after = refl;
+    })
     (c.load.ensures.items replies are) c.load.ensures.framed p.sent.1 p.sent.2 p.all p.some
     p.counted
     (subst (λ (cause : Option Cause). EndsAs cause left c.self.inside.reader.taken (Some ending))

@@ -17,5 +17,6 @@ returns-in-Ok-new-clause-begins g c =
       none_taken = p.0.none_taken;
       input = p.0.goes_on;
       reads = refl;
+      none_after = refl;
       goes_on = refl;
     }) p.1 refl

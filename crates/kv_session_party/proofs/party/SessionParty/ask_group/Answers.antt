@@ -1,4 +1,4 @@
-use Rattle.std.proofs.Common.{◌≡◌, ◌≤◌, Bool, true, false, length, sym, ap, ◌∙◌, subst, arith}
+use Rattle.std.proofs.Common.{Bool, length, sym, ap, ◌∙◌, subst, arith}
 use Rattle.std.proofs.Math.Logic.{∥∥₁_map}
 use Rattle.std.proofs.lemmas.Bool.{true≢false}
 use Rattle.kv_session.specs.Passage.{Streams}
@@ -49,6 +49,7 @@ invariant_of-self g c =
       closed = c.ends_reading-self.ensures ∙ ends-closing c.gather-gathered.result
           c.gather-gathered.new.self.closing gather.ends;
       reads = λ going e. absurd (true≢false e);
+      told = λ going e. absurd (true≢false e);
       rests = λ e. sym e ∙ c.requires.goes_on;
       away = λ going. away-asked old.seen old.links new routes after asks;
       bare = λ e. absurd (true≢false e);
@@ -65,5 +66,5 @@ invariant_of-self g c =
           asks.places asks.size
           (subst (λ (w : Bool). Tells streams setting old.first.value.source
           old.first.value.sink old.session (told_to old.links) (heard_from old.links) old.seen
-          old.routes w) c.requires.reads t));
+          old.routes w old.seat.view old.lifted) c.requires.reads t));
     }

@@ -1,4 +1,4 @@
-use Rattle.std.proofs.Common.{◌≡◌, None, get_or, sym, ap, ◌∙◌, subst}
+use Rattle.std.proofs.Common.{None, get_or, sym, ap, ◌∙◌, subst}
 use Rattle.std.specs.Prelude.{is_some}
 use Rattle.std.proofs.Math.Logic.{∥∥₁_map}
 use Rattle.kv_session.specs.Passage.{Streams}
@@ -29,6 +29,7 @@ invariant_of-self g c =
       ended = old.ended;
       closed = old.closed;
       reads = old.reads;
+      told = old.told;
       rests = old.rests;
       away = λ going worker here. ap (λ ws. is_some (get_or ws.items worker None)) unsent
           ∙ old.away going worker here;

@@ -1,4 +1,4 @@
-use Rattle.std.proofs.Common.{◌≡◌, ◌≤◌, ℕ, false, length, refl, sym, ap, ◌∙◌, subst, subst₂, arith}
+use Rattle.std.proofs.Common.{◌≡◌, false, length, refl, sym, ap, ◌∙◌, subst, subst₂, arith}
 use Rattle.std.proofs.Common.{[]}
 use Rattle.std.proofs.lemmas.Grind.{merely}
 use Rattle.kv_ring.specs.Ends.{peers, sent_to, received_from}
@@ -34,18 +34,19 @@ invariant_of-result g c =
       ended = sym (of-none _ is.0.goes_on);
       closed = sym (of-none _ is.0.reads);
       reads = λ going resting. refl;
+      told = λ going resting. is.0.none_after;
       rests = λ e. refl;
       away = λ e worker here. of-none _ (c.in-Ok-new-2.ensures.none worker);
       bare = λ e. c.in-Ok-new.ensures.bare;
       promise = λ setting served. merely (subst (λ (s : State). Tells streams setting s.source
-          s.sink session (told_to links) (heard_from links) 0 routes false)
-          (sym c.of-first.ensures)
+          s.sink session (told_to links) (heard_from links) 0 routes false
+          c.args.seat.view false) (sym c.of-first.ensures)
           (Tells-new streams setting session.source session.sink session (told_to links)
-          (heard_from links) routes
+          (heard_from links) routes c.args.seat.view
           (told-fresh links c.in-Ok-new-2.ensures.none
-          (λ worker. ap (λ e. sent_to e worker) same ∙ c.requires.sent worker))
-          (λ worker. ap (λ e. received_from e worker) same ∙ c.requires.received worker)
-          (size ∙ sym served.workers_are) is.0.goes_on
+          (λ worker. ap (λ e. sent_to e worker) same ∙ c.requires.ends.sent worker))
+          (λ worker. ap (λ e. received_from e worker) same ∙ c.requires.ends.received worker)
+          (size ∙ sym served.workers_are) c.requires.seat is.0.goes_on
           (subst₂ (λ a b. HasRead streams a b [] [] session) (sym is.1) (sym is.2)
           c.in-Ok-new-3.ensures.begins)));
     }

@@ -1,4 +1,4 @@
-use Rattle.std.proofs.Common.{◌≡◌, ◌<◌, true, false, sym, ◌∙◌, subst}
+use Rattle.std.proofs.Common.{◌<◌, sym, ◌∙◌, subst}
 use Rattle.std.proofs.Math.Logic.{∥∥₁_map}
 use Rattle.std.proofs.lemmas.Bool.{true≢false}
 use Rattle.kv_session.specs.Passage.{Streams}
@@ -27,6 +27,7 @@ invariant_of-self g c =
       ended = old.ended;
       closed = old.closed;
       reads = old.reads;
+      told = old.told;
       rests = old.rests;
       away = λ going. absurd (true≢false (sym c.if-self.true ∙ going));
       bare = old.bare;

@@ -1,4 +1,4 @@
-use Rattle.std.proofs.Common.{◌≡◌, ◌≤◌, List, Bool, true, false, length, sym, ap, ◌∙◌, subst}
+use Rattle.std.proofs.Common.{◌≤◌, List, Bool, length, sym, ap, ◌∙◌, subst}
 use Rattle.std.specs.Prelude.{◌&&◌, not, is_some}
 use Rattle.std.proofs.Math.Logic.{∥∥₁_map}
 use Rattle.std.proofs.lemmas.Bool.{true≢false}
@@ -30,6 +30,7 @@ invariant_of-self g c =
       ended = old.ended;
       closed = old.closed;
       reads = old.reads;
+      told = old.told;
       rests = old.rests;
       away = λ going. away-received old.links new old.routes after c.receive.result r
           (old.away going);
@@ -37,7 +38,8 @@ invariant_of-self g c =
       promise = λ setting served. ∥∥₁_map
           (old.promise setting (subst (IsServed setting) r.rings.peers served))
           (λ t. subst (λ (w : Bool). Tells streams setting old.first.value.source
-          old.first.value.sink old.session (told_to new) (heard_from new) old.seen after w)
+          old.first.value.sink old.session (told_to new) (heard_from new) old.seen after w
+          old.seat.view old.lifted)
           (sym c.requires.waits)
           (Tells-received streams setting old.first.value.source old.first.value.sink old.session
           (told_to old.links) (told_to new) (heard_from old.links) (heard_from new) old.seen
@@ -47,7 +49,7 @@ invariant_of-self g c =
           (ap (λ b. b && not (is_some (waiting_for old.links worker))) here)) r.places r.size
           (subst (λ (w : Bool). Tells streams setting old.first.value.source
           old.first.value.sink old.session (told_to old.links) (heard_from old.links) old.seen
-          old.routes w) c.requires.waits t)));
+          old.routes w old.seat.view old.lifted) c.requires.waits t)));
     }
 
 pub returns-clause-full : goal.returns-clause-full

@@ -1,4 +1,4 @@
-use Rattle.std.proofs.Common.{◌≡◌, sym, ap, ◌∙◌, subst}
+use Rattle.std.proofs.Common.{sym, ap, ◌∙◌, subst}
 use Rattle.std.specs.Prelude.{◌||◌}
 use Rattle.std.proofs.Math.Logic.{∥∥₁_map}
 use Rattle.kv_ring.specs.Turn.{turn_of}
@@ -30,6 +30,7 @@ invariant_of-self g c =
       ended = old.ended;
       closed = old.closed;
       reads = old.reads;
+      told = old.told;
       rests = old.rests;
       away = λ going worker here.
           of-none _ (pushed.free worker (none-of _ (old.away going worker here)));

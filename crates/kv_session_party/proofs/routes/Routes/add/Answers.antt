@@ -1,4 +1,4 @@
-use Rattle.std.proofs.Common.{◌≡◌, subst}
+use Rattle.std.proofs.Common.{subst}
 use Rattle.kv_session_party.specs.Routes.{RoutesState}
 use Rattle.kv_session_party.proofs.RouteLemmas.{RoutesOne, routes-put, ok-then}
 use Rattle.kv_session_party.proofs.routes.Routes.add.Goals as goal

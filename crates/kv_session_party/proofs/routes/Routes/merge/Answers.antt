@@ -8,7 +8,6 @@ use Rattle.kv_session_party.specs.Merging.{AreAnswered, IsMerged}
 use Rattle.kv_session_party.specs.Parts.{replies_in, tasks_here}
 use Rattle.kv_session_party.specs.Routes.{RoutesState}
 use Rattle.kv_session_party.specs.Parts.{part_of}
-use Rattle.kv_session_party.specs.declared.routes.Place.{Place}
 use Rattle.kv_session_party.proofs.MergeLemmas.{Merges, Merges-new, Merges-ready, Merges-more}
 use Rattle.kv_session_party.proofs.MergeLemmas.{Merges-all, Merges-many, Merges-bare}
 use Rattle.kv_session_party.proofs.RouteLemmas.{none-left, ok-then}

@@ -1,4 +1,4 @@
-use Rattle.std.proofs.Common.{◌≡◌, List, [], length, ap, arith, length-append}
+use Rattle.std.proofs.Common.{[], length, ap, arith, length-append}
 use Rattle.std.proofs.Common.{◌∷◌}
 use Rattle.std.proofs.lemmas.Bool.{false≢true}
 use Rattle.kv_session_party.proofs.RouteLemmas.{Splits-new, Splits-room, Splits-routable}

@@ -1,14 +1,22 @@
 -- a look draws nothing
-use Rattle.std.proofs.Common.{arith, ap}
-use Rattle.kv_worker_party.proofs.SeatLemmas.{looked-stayed}
-use Rattle.kv_worker_party.proofs.PartyLemmas.{later-promise}
+use Rattle.std.proofs.Common.{arith}
+use Rattle.kv_ring.specs.Ends.{peers}
+use Rattle.kv_worker_party.proofs.PartyLemmas.{goes-later, later-promise, looked-lifts}
 use Rattle.kv_worker_party.proofs.party.WorkerParty.look.Goals as goal
+
+pub returns-clause-goes_on : goal.returns-clause-goes_on
+returns-clause-goes_on g c =
+    let old = c.args.self.now in
+    let v = c.look.ensures.value in
+    goes-later g.D.Disk g.I.Index old.seat.view.start (peers old.ends) old.first.value old.worker
+    old.ends old.connections.items old.seat.view c.look.new.seat.view old.lifted old.lifted
+    (looked-lifts v.0 old.seat.view c.look.new.seat.view old.lifted v.2)
 
 pub invariant_of-self : goal.invariant_of-self
 invariant_of-self g c =
     let old = c.args.self.now in
     let v = c.look.ensures.value in
-    let stays = looked-stayed v.0 old.seat.view c.look.new.seat.view v.2 in
+    let lifts = looked-lifts v.0 old.seat.view c.look.new.seat.view old.lifted v.2 in
     record {
       number_is = old.number_is;
       workers_is = old.workers_is;
@@ -18,15 +26,12 @@ invariant_of-self g c =
       empty = old.empty;
       room = old.room;
       started = (
-        omega (arith, stays.start, old.started.0),
-        omega (arith, stays.start, stays.up, old.started.1),
+        omega (arith, lifts.stays.start, old.started.0),
+        omega (arith, lifts.stays.start, lifts.stays.up, old.started.1),
       );
-      ahead = λ open_. let a = old.ahead open_ in omega (arith, a, stays.up);
+      ahead = λ open_. let a = old.ahead open_ in omega (arith, a, lifts.stays.up);
       gone = old.gone;
       promise = later-promise g.D.Disk g.I.Index old.first.value old.worker old.ends
-          old.connections.items old.seat.view c.look.new.seat.view old.lifted old.lifted (record {
-            stays = stays;
-            spent = ap (λ x. x.spent) v.2.view;
-            gaps = λ is. (is, ap (λ x. x.gaps) v.2.view);
-          }) old.promise;
+          old.connections.items old.seat.view c.look.new.seat.view old.lifted old.lifted lifts
+          old.promise;
     }

@@ -1,4 +1,4 @@
-use kv_words::{Command, WordsFault, read_words};
+use kv_words::{Command, Ends, WordsFault, read_words};
 use std::alloc::Global;
 use std::test::Fail;
 
@@ -30,8 +30,37 @@ type Row = (&'static [&'static str], Asked);
 
 const SLOTS: u32 = 1 << 20;
 
-static GOOD: [Row; 19] = [
+static GOOD: [Row; 24] = [
     (&["serve", "D", "1", "-", "-"], (1, SLOTS, 256)),
+    (&["serve", "D", "2", "-", "-"], (1, SLOTS, 256)),
+    (&["serve", "D", "16", "-", "-"], (1, SLOTS, 256)),
+    (&["serve", "D", "1", "-", "a", "a", "-"], (1, SLOTS, 256)),
+    (&["serve", "D", "1", "a", "a", "a", "a"], (1, SLOTS, 256)),
+    (
+        &[
+            "serve",
+            "D",
+            "2",
+            "a",
+            "b",
+            "c",
+            "d",
+            "e",
+            "f",
+            "g",
+            "h",
+            "i",
+            "j",
+            "k",
+            "l",
+            "m",
+            "n",
+            "-",
+            "-",
+            "--slots=9",
+        ],
+        (1, 9, 256),
+    ),
     (&["serve", "--slots", "5", "D", "1", "-", "-"], (1, 5, 256)),
     (&["serve", "D", "--slots=5", "1", "-", "-"], (1, 5, 256)),
     (
@@ -70,7 +99,7 @@ static GOOD: [Row; 19] = [
     (&["dump", "check", "4"], (3, 4, 0)),
 ];
 
-static OTHER: [&[&str]; 26] = [
+static OTHER: [&[&str]; 30] = [
     &[],
     &[""],
     &["serve"],
@@ -81,9 +110,16 @@ static OTHER: [&[&str]; 26] = [
     &["serve", "--version"],
     &["serve", "D", "17", "-", "-"],
     &["serve", "D", "0", "-", "-"],
-    &["serve", "D", "2", "-", "-"],
+    &["serve", "D", "1"],
     &["serve", "D", "1", "-"],
     &["serve", "D", "1", "-", "-", "-"],
+    &["serve", "D", "2", "a", "b", "c"],
+    &["serve", "D", "1", "-", "a", "-", "b"],
+    &["serve", "D", "1", "a", "-", "b", "-"],
+    &[
+        "serve", "D", "2", "a", "b", "c", "d", "e", "f", "g", "h", "i", "j", "k", "l", "m", "n",
+        "o", "p", "q", "r",
+    ],
     &["serve", "D", "1", "-", "-", "-", "-"],
     &["serve", "D", "1", "", "-"],
     &["serve", "", "1", "-", "-"],
@@ -164,27 +200,51 @@ fn other_options_are_usage(rt: HostRuntime) -> Result<(), Fail> {
     Ok(())
 }
 
-// Whether the words are `serve` with these words in place of a folder, an input and an output.
-fn is_serve(words: &[String], folder: &str, input: &str, output: &str, alloc: Global) -> bool {
+// Whether the words are `serve` with this folder, so many workers, and these words in place of each
+// session's input and output.
+fn is_serve(
+    words: &[String],
+    folder: &str,
+    workers: u32,
+    ends: &[(&str, &str)],
+    alloc: Global,
+) -> bool {
     match read_words(alloc, words) {
         Ok(
             Command::Serve {
                 folder: f,
-                input: i,
-                output: o,
+                workers: w,
+                sessions,
                 ..
             },
-        ) => f == folder && i == input && o == output,
+        ) => f == folder && w == workers && are_ends(sessions.as_slice(), ends),
         _ => false,
     }
+}
+
+fn are_ends(sessions: &[Ends], ends: &[(&str, &str)]) -> bool {
+    if sessions.len() != ends.len() {
+        return false;
+    }
+    for (session, (input, output)) in sessions.iter().zip(ends) {
+        if session.input != *input || session.output != *output {
+            return false;
+        }
+    }
+    true
 }
 
 #[test]
 fn each_word_has_its_place(rt: HostRuntime) -> Result<(), Fail> {
     let alloc = rt.alloc();
     let words = words_of(alloc, &["serve", "D", "--slots", "3", "1", "in", "out"])?;
-    assert!(rt; is_serve(&words, "D", "in", "out", alloc));
+    assert!(rt; is_serve(&words, "D", 1, &[("in", "out")], alloc));
     let words = words_of(alloc, &["serve", "--", "--slots=4", "1", "-x", "--"])?;
-    assert!(rt; is_serve(&words, "--slots=4", "-x", "--", alloc));
+    assert!(rt; is_serve(&words, "--slots=4", 1, &[("-x", "--")], alloc));
+    let words = words_of(
+        alloc,
+        &["serve", "D", "+3", "a", "b", "--cache=2", "-", "c"],
+    )?;
+    assert!(rt; is_serve(&words, "D", 3, &[("a", "b"), ("-", "c")], alloc));
     Ok(())
 }

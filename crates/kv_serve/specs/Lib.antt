@@ -1,11 +1,9 @@
-pub mod Answers
-pub mod Begins
+pub mod Outside
+pub mod Taken
 pub mod Opening
+pub mod Stores
+pub mod Answers
 pub mod Serve
-pub mod Group
-pub mod Laws
-pub mod Outcome
-pub mod Run
 pub mod StatusLine
 pub mod Report
 pub mod Command

@@ -4,17 +4,15 @@ use Rattle.std.specs.Prelude.{Result, Ok, Err, IfErr, IsTrue}
 use Rattle.kv_base.specs.Calls.{next_count}
 use Rattle.kv_disk.specs.declared.disk.Disk.{Ghosts}
 use Rattle.kv_recover.specs.declared.fault.OpenFault.TheVariants as faults
-use Rattle.kv_site.specs.FileSite.{Counts}
-use Rattle.kv_site.specs.Held.{Held, SessionsStay, ReportStays}
-use Rattle.kv_site.specs.declared.fault.TakeFault.{TakeFault}
-use Rattle.kv_site.specs.declared.fault.TakeFault.TheVariants.{Failed, NoMemory}
+use Rattle.kv_site.specs.Held.{Held}
 use Rattle.kv_tools.specs.Checked.{Checks, ChecksUntil}
 use Rattle.kv_tools.specs.Disks.{ReadsAll, CountsAll}
 use Rattle.kv_tools.specs.Dumped.{Dumps, DumpsUntil}
 use Rattle.kv_tools.specs.Faults.{HasReportCause, sink_faults}
 use Rattle.kv_tools.specs.declared.fault.ToolFault.{ToolFault}
 use Rattle.kv_tools.specs.declared.fault.ToolFault.TheVariants as tools
-use Rattle.kv_serve.specs.Serve.{Outside, SessionsKept, DisksKept}
+use Rattle.kv_serve.specs.Outside.{Outside}
+use Rattle.kv_serve.specs.Taken.{SessionsKept, DisksKept}
 use Rattle.kv_serve.specs.declared.ended.Ended.{Ended}
 use Rattle.kv_serve.specs.declared.ended.Refused.{Refused}
 use Rattle.kv_serve.specs.declared.ended.Refused.TheVariants.{Disk, TakeDisk, TakeSession}
@@ -63,41 +61,6 @@ pub record ReturnsAll {In Out Pages : Type 0} (before after : Held In Out Pages)
   pub report_was : before.report ≡ Some old
   pub report_back : after.report ≡ Some new
   pub sessions : SessionsKept before after
-
--- the disks of the first workers in the folder were taken, and nothing else changed
-pub record TookDisks {In Out Pages : Type 0} (before after : Held In Out Pages) (folder : List ℕ)
-    (disks : List Pages) : Type 0 where
-  pub was : (worker : ℕ) (disk : Pages) → slice_get disks worker ≡ Some disk
-      → before.disks folder worker ≡ Some disk
-  pub home : (worker : ℕ) → worker < length disks → after.home worker ≡ Some folder
-  pub others : (other : List ℕ) (worker : ℕ) → (other ≡ folder → worker < length disks → ⊥)
-      → after.disks other worker ≡ before.disks other worker
-  pub sessions : SessionsStay before after
-  pub report : ReportStays before after
-
--- the disks of so many first workers were taken from this folder
-abbrev pub AreHome : {In Out Pages : Type 0} → Held In Out Pages → List ℕ → ℕ → Type 0
-AreHome held folder count = (worker : ℕ) → worker < count → held.home worker ≡ Some folder
-
--- the disks of the first workers stand in the folder, and nothing else changed
-pub record GivesDisks {In Out Pages : Type 0} (before after : Held In Out Pages) (folder : List ℕ)
-    (disks : List Pages) : Type 0 where
-  pub back : (worker : ℕ) (disk : Pages) → slice_get disks worker ≡ Some disk
-      → after.disks folder worker ≡ Some disk
-  pub others : (other : List ℕ) (worker : ℕ) → (other ≡ folder → worker < length disks → ⊥)
-      → after.disks other worker ≡ before.disks other worker
-  pub sessions : SessionsStay before after
-  pub report : ReportStays before after
-
--- just a take that failed is counted
-abbrev pub CountsTakes : {T : Type 0} → ℕ → ℕ → Result T (ℕ × TakeFault) → Type 0
-CountsTakes old new (Ok done) = new ≡ old
-CountsTakes {T} old new (Err refused) = Counts {T = T} old new (Err refused.1)
-
--- how a command ends that the site refused something
-abbrev pub IsTakeRefusal : TakeFault → Refused → ℕ → Option Refused → Type 0
-IsTakeRefusal Failed what status refused = (status ≡ 3) × (refused ≡ Some what)
-IsTakeRefusal NoMemory what status refused = (status ≡ 4) × (refused ≡ None)
 
 -- how a command ends whose report came to this
 abbrev pub IsReportEnd : Outcome → ℕ → Option Refused → Type 0

@@ -1,21 +1,15 @@
 //! The program's commands, from words and bytes to bytes.
 #![tactic(auto)]
 
-mod answer;
-mod batches;
-mod counter;
+mod disks;
 mod ended;
-mod give_back;
-mod laws;
-mod opening;
 mod refuse;
 mod report;
-mod room;
-mod run;
 mod serve;
-mod serve_disk;
+mod sessions;
 mod status;
 mod status_text;
+mod stores;
 mod top;
 
 pub use ended::{Ended, Endings, Refused};

@@ -1,5 +1,6 @@
-ghost use Rattle.std.specs.Prelude.{◌≡◌, [], None};
-ghost use Rattle.kv_serve.specs.Serve.{IsDiskRefusal, IsSessionRefusal};
+ghost use Rattle.std.specs.Prelude.{◌≡◌, []};
+ghost use Rattle.kv_serve.specs.Stores.{IsDiskRefusal};
+ghost use Rattle.kv_serve.specs.Taken.{IsTakeRefusal};
 
 use crate::ended::{Ended, Endings, Refused};
 use kv_base::NoMemory;
@@ -24,45 +25,24 @@ pub fn not_served(alloc: Global, status: u8, refused: Option<Refused>) -> Ended
     }
 }
 
-/// The end of a command that ran out of memory before it served.
-pub fn run_out(endings: Endings) -> Ended
-    ensures endings { result.endings ≡ endings }
-    ensures status { result.status ≡ 4 }
-    ensures refused { result.refused ≡ None }
+/// The end of a command that the site refused something.
+pub fn refused_by(alloc: Global, fault: TakeFault, refused: Refused) -> Ended
+    ensures endings { result.endings.items ≡ [] }
+    ensures cause { IsTakeRefusal fault refused result.status result.refused }
 {
-    Ended {
-        status: 4,
-        endings,
-        refused: None,
+    match fault {
+        TakeFault::Failed => not_served(alloc, 3, Some(refused)),
+        TakeFault::NoMemory => not_served(alloc, 4, None),
     }
 }
 
-/// The end of a command whose disk couldn't be opened.
-pub fn refuse_disk(fault: OpenFault, endings: Endings) -> Ended
-    ensures endings { result.endings ≡ endings }
-    ensures cause { IsDiskRefusal fault result.status result.refused }
+/// The end of a command one of whose disks couldn't be opened.
+pub fn refuse_disk(alloc: Global, worker: u32, fault: OpenFault) -> Ended
+    ensures endings { result.endings.items ≡ [] }
+    ensures cause { IsDiskRefusal worker fault result.status result.refused }
 {
     match fault {
-        OpenFault::NoMemory => run_out(endings),
-        _ => Ended {
-            status: 3,
-            endings,
-            refused: Some(Refused::Disk { worker: 0, fault }),
-        },
-    }
-}
-
-/// The end of a command that got no ends for its session.
-pub fn refuse_session(fault: TakeFault, endings: Endings) -> Ended
-    ensures endings { result.endings ≡ endings }
-    ensures cause { IsSessionRefusal fault result.status result.refused }
-{
-    match fault {
-        TakeFault::NoMemory => run_out(endings),
-        TakeFault::Failed => Ended {
-            status: 3,
-            endings,
-            refused: Some(Refused::TakeSession { session: 0 }),
-        },
+        OpenFault::NoMemory => not_served(alloc, 4, None),
+        _ => not_served(alloc, 3, Some(Refused::Disk { worker, fault })),
     }
 }

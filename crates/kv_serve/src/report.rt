@@ -1,15 +1,16 @@
-ghost use Rattle.std.specs.Prelude.{◌≡◌, ◌<◌, ◌≤◌, ℕ, List, [], length, IsTrue, OnOk, IfErr};
+ghost use Rattle.std.specs.Prelude.{◌≡◌, ◌≤◌, ℕ, List, [], length, IsTrue};
+ghost use Rattle.kv_serve.specs.Outside.{outside_of};
+ghost use Rattle.kv_serve.specs.Report.{IsReported, IsReportEnd, Makes, ReturnsAll};
+ghost use Rattle.kv_serve.specs.Taken.{TookDisks};
 ghost use Rattle.kv_site.specs.Held.{Held, TakesReport};
-ghost use Rattle.kv_serve.specs.Report.{AreHome, CountsTakes, GivesDisks, IsReported, IsReportEnd};
-ghost use Rattle.kv_serve.specs.Report.{IsTakeRefusal, Makes, ReturnsAll, TookDisks};
-ghost use Rattle.kv_serve.specs.Serve.{outside_of};
 
+use crate::disks::{Disks, give_disks, take_disks};
 use crate::ended::{Ended, Refused};
-use crate::refuse::not_served;
-use kv_base::{ReservedList, Sink, Source};
+use crate::refuse::{not_served, refused_by};
+use kv_base::{Sink, Source};
 use kv_disk::Disk;
 use kv_recover::OpenFault;
-use kv_site::{Site, TakeFault};
+use kv_site::Site;
 use kv_tools::{ToolFault, check_all, dump_all};
 use std::alloc::Global;
 
@@ -21,9 +22,6 @@ pub enum ReportKind {
     /// All items that they keep.
     Dump,
 }
-
-/// The disks of a store, worker by worker.
-type Disks<D> = ReservedList<D>;
 
 /// Makes the report over the disks.
 fn make_report<D: Disk, Si: Sink>(
@@ -58,56 +56,6 @@ fn reported(alloc: Global, outcome: Result<(), ToolFault>) -> Ended
         }
         Err(ToolFault::SinkFault) => not_served(alloc, 1, None),
         Err(ToolFault::NoMemory) => not_served(alloc, 4, None),
-    }
-}
-
-/// The end of a command that the site refused something.
-fn refused_by(alloc: Global, fault: TakeFault, refused: Refused) -> Ended
-    ensures endings { result.endings.items ≡ [] }
-    ensures cause { IsTakeRefusal fault refused result.status result.refused }
-{
-    match fault {
-        TakeFault::Failed => not_served(alloc, 3, Some(refused)),
-        TakeFault::NoMemory => not_served(alloc, 4, None),
-    }
-}
-
-/// Takes the disks of so many workers in the folder. Where the site refuses one it answers whose, and
-/// those before it are in the list.
-fn take_disks<S: Site>(
-    site: &mut S,
-    folder: &str,
-    workers: u32,
-    disks: &mut Disks<S::Pages>,
-) -> Result<(), (u32, TakeFault)>
-    requires empty { disks.old.items ≡ [] }
-    requires room { workers ≤ disks.old.spare }
-    ensures took { IsTrue S.tells → TookDisks (S.holds site.old) (S.holds site.new) folder.now
-        disks.new.items }
-    ensures ok { OnOk result (length disks.new.items ≡ workers) }
-    ensures within { length disks.new.items ≤ workers }
-    ensures err { IfErr result (λ refused. refused.0 < workers) }
-    ensures counted { CountsTakes (S.faults site.old) (S.faults site.new) result }
-{
-    for worker in 0..workers {
-        match site.take_disk(folder, worker) {
-            Ok(disk) => disks.append(disk).unwrap(),
-            Err(fault) => return Err((worker, fault)),
-        }
-    }
-    Ok(())
-}
-
-/// Gives the disks back, the last one first.
-fn give_disks<S: Site>(site: &mut S, mut disks: Disks<S::Pages>)
-    requires { length disks.items ≤ 16 }
-    ensures given { IsTrue S.tells → (folder : List ℕ)
-        → AreHome (S.holds site.old) folder (length disks.items)
-        → GivesDisks (S.holds site.old) (S.holds site.new) folder disks.items }
-    ensures still { S.faults site.new ≡ S.faults site.old }
-{
-    while let Some(disk) = disks.take_last() {
-        site.give_disk(disks.as_slice().len() as u32, disk);
     }
 }
 

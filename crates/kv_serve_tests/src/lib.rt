@@ -3,6 +3,8 @@
 #![tactic(auto)]
 
 #[cfg(test)]
+mod mesh_rows;
+#[cfg(test)]
 mod refusal_rows;
 #[cfg(test)]
 mod report_rows;

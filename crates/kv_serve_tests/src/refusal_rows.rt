@@ -5,7 +5,9 @@ use crate::test_run::{new_disk, run, serve};
 use kv_base::{Cause, Reply};
 use kv_serve::{Ended, OpenFault, Refused};
 use std::alloc::Global;
+use std::sync::Wait;
 use std::test::Fail;
+use std::thread::Threads;
 
 // A page of a disk, and why the disk is refused.
 static REFUSALS: [(Page, OpenFault); 3] = [
@@ -23,8 +25,13 @@ static REFUSALS: [(Page, OpenFault); 3] = [
 ];
 
 // Whether the disk with this page is refused for this, and stays.
-fn is_refused(alloc: Global, page: Page, fault: OpenFault) -> Result<bool, Fail> {
-    let left = serve(alloc, disk_with(alloc, &[page])?, PUT_A_1.0, &[])?;
+fn is_refused<R: Threads + Wait + Copy + Send + 'static>(
+    rt: R,
+    alloc: Global,
+    page: Page,
+    fault: OpenFault,
+) -> Result<bool, Fail> {
+    let left = serve(rt, alloc, disk_with(alloc, &[page])?, PUT_A_1.0, &[])?;
     Ok(
         left.ended.status == 3
             && left.ended.refused == Some(Refused::Disk { worker: 0, fault })
@@ -36,7 +43,7 @@ fn is_refused(alloc: Global, page: Page, fault: OpenFault) -> Result<bool, Fail>
 #[test]
 fn other_disks_are_refused_and_come_back(rt: HostRuntime) -> Result<(), Fail> {
     for (page, fault) in &REFUSALS {
-        assert!(rt; is_refused(rt.alloc(), *page, *fault)?, "{fault:?}");
+        assert!(rt; is_refused(rt, rt.alloc(), *page, *fault)?, "{fault:?}");
     }
     Ok(())
 }
@@ -51,15 +58,19 @@ static OTHER_WORDS: [&[&str]; 7] = [
     &["check", "D", "1", "-", "-"],
 ];
 
-fn takes_nothing(alloc: Global, words: &[&str]) -> Result<bool, Fail> {
-    let left = run(alloc, words, new_disk(alloc, &[])?, PUT_A_1.0, &[])?;
+fn takes_nothing<R: Threads + Wait + Copy + Send + 'static>(
+    rt: R,
+    alloc: Global,
+    words: &[&str],
+) -> Result<bool, Fail> {
+    let left = run(rt, alloc, words, new_disk(alloc, &[])?, PUT_A_1.0, &[])?;
     Ok(left.ended.status == 2 && left.output.is_empty() && left.disk.calls() == 0)
 }
 
 #[test]
 fn other_words_take_nothing(rt: HostRuntime) -> Result<(), Fail> {
     for words in &OTHER_WORDS {
-        assert!(rt; takes_nothing(rt.alloc(), words)?, "{words:?}");
+        assert!(rt; takes_nothing(rt, rt.alloc(), words)?, "{words:?}");
     }
     Ok(())
 }
@@ -79,7 +90,7 @@ fn is_found_2_1(ended: &Ended) -> bool {
 fn what_a_failed_sink_did_not_take_is_left(rt: HostRuntime) -> Result<(), Fail> {
     let alloc = rt.alloc();
     let input = bytes_of(alloc, &[PUT_A_1, GET_A])?;
-    let left = serve(alloc, new_disk(alloc, &[])?, &input, &[2])?;
+    let left = serve(rt, alloc, new_disk(alloc, &[])?, &input, &[2])?;
     assert!(rt; has_ended(&left.ended, Cause::SinkFault, 14, 1));
     assert!(rt; is_found_2_1(&left.ended), "the reply to the get");
     assert!(rt; left.output.as_slice() == STORED_1.0);

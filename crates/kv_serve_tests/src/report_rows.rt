@@ -7,7 +7,9 @@ use kv_disk::MemDisk;
 use kv_serve::{OpenFault, Refused};
 use kv_site::MemSite;
 use std::alloc::Global;
+use std::sync::Wait;
 use std::test::Fail;
+use std::thread::Threads;
 
 // A report that was made has status 0, and no session.
 fn is_report(left: &Left, text: &str) -> bool {
@@ -18,19 +20,25 @@ fn is_report(left: &Left, text: &str) -> bool {
 }
 
 // What is counted, and what is listed, of a disk.
-fn is_reported(alloc: Global, disk: MemDisk, counts: &str, items: &str) -> Result<bool, Fail> {
-    let checked = report(alloc, &["check", "D", "1"], disk, &[])?;
+fn is_reported<R: Threads + Wait + Copy + Send + 'static>(
+    rt: R,
+    alloc: Global,
+    disk: MemDisk,
+    counts: &str,
+    items: &str,
+) -> Result<bool, Fail> {
+    let checked = report(rt, alloc, &["check", "D", "1"], disk, &[])?;
     if !is_report(&checked, counts) {
         return Ok(false);
     }
-    let dumped = report(alloc, &["dump", "D", "1"], checked.disk, &[])?;
+    let dumped = report(rt, alloc, &["dump", "D", "1"], checked.disk, &[])?;
     Ok(is_report(&dumped, items))
 }
 
 #[test]
 fn a_new_disk_is_reported(rt: HostRuntime) -> Result<(), Fail> {
     let alloc = rt.alloc();
-    assert!(rt; is_reported(alloc, new_disk(alloc, &[])?, "disk 0 new\n", "")?);
+    assert!(rt; is_reported(rt, alloc, new_disk(alloc, &[])?, "disk 0 new\n", "")?);
     Ok(())
 }
 
@@ -38,6 +46,7 @@ fn a_new_disk_is_reported(rt: HostRuntime) -> Result<(), Fail> {
 fn what_was_put_is_reported(rt: HostRuntime) -> Result<(), Fail> {
     let alloc = rt.alloc();
     let left = serve(
+        rt,
         alloc,
         new_disk(alloc, &[])?,
         &bytes_of(alloc, &[PUT_A_1, GET_A])?,
@@ -46,7 +55,7 @@ fn what_was_put_is_reported(rt: HostRuntime) -> Result<(), Fail> {
     let counts = "disk 0 class 1 end 1 kept 1 stale 0 foreign 0 tomb 0 never 0 torn 0 bad 0
 disk 0 floor 1 keys 1
 ";
-    assert!(rt; is_reported(alloc, left.disk, counts, "1 61 31\n")?);
+    assert!(rt; is_reported(rt, alloc, left.disk, counts, "1 61 31\n")?);
     Ok(())
 }
 
@@ -75,6 +84,7 @@ fn a_full_class_is_reported(rt: HostRuntime) -> Result<(), Fail> {
     let alloc = rt.alloc();
     let words = ["serve", "--slots", "2", "D", "1", "-", "-"];
     let left = run(
+        rt,
         alloc,
         &words,
         new_disk(alloc, &[])?,
@@ -85,7 +95,7 @@ fn a_full_class_is_reported(rt: HostRuntime) -> Result<(), Fail> {
     let counts = "disk 0 class 1 end 2 kept 2 stale 0 foreign 0 tomb 0 never 0 torn 0 bad 0
 disk 0 floor 5 keys 2
 ";
-    assert!(rt; is_reported(alloc, left.disk, counts, "2 62 32\n5 63 33\n")?);
+    assert!(rt; is_reported(rt, alloc, left.disk, counts, "2 62 32\n5 63 33\n")?);
     Ok(())
 }
 
@@ -121,7 +131,7 @@ fn damaged_slots_are_counted(rt: HostRuntime) -> Result<(), Fail> {
     let counts = "disk 0 class 1 end 4 kept 1 stale 0 foreign 0 tomb 0 never 0 torn 0 bad 3
 disk 0 floor 7 keys 1
 ";
-    assert!(rt; is_reported(alloc, disk_of(alloc, &damaged())?, counts, "5 61 31\n")?);
+    assert!(rt; is_reported(rt, alloc, disk_of(alloc, &damaged())?, counts, "5 61 31\n")?);
     Ok(())
 }
 
@@ -130,12 +140,12 @@ const SPENT: OpenFault = OpenFault::StampsSpent { stamp: u64::MAX };
 #[test]
 fn a_disk_without_stamps_is_reported_and_not_served(rt: HostRuntime) -> Result<(), Fail> {
     let alloc = rt.alloc();
-    let left = serve(alloc, disk_of(alloc, &[255; 4096])?, PUT_A_1.0, &[])?;
+    let left = serve(rt, alloc, disk_of(alloc, &[255; 4096])?, PUT_A_1.0, &[])?;
     assert!(rt; left.ended.status == 3 && is_refusal(left.ended.refused, 0, SPENT));
     let counts = "disk 0 class 1 end 64 kept 0 stale 0 foreign 0 tomb 0 never 0 torn 0 bad 64
 disk 0 floor 18446744073709551615 keys 0
 ";
-    assert!(rt; is_reported(alloc, left.disk, counts, "")?);
+    assert!(rt; is_reported(rt, alloc, left.disk, counts, "")?);
     Ok(())
 }
 
@@ -154,8 +164,13 @@ const OTHER: OpenFault = OpenFault::OtherStore {
 };
 
 // Whether the command refuses the disk of another store, and writes nothing.
-fn is_other(alloc: Global, name: &str) -> Result<bool, Fail> {
+fn is_other<R: Threads + Wait + Copy + Send + 'static>(
+    rt: R,
+    alloc: Global,
+    name: &str,
+) -> Result<bool, Fail> {
     let left = report(
+        rt,
         alloc,
         &[name, "D", "1"],
         disk_with(alloc, &[HEAD_OF_4])?,
@@ -166,14 +181,19 @@ fn is_other(alloc: Global, name: &str) -> Result<bool, Fail> {
 
 #[test]
 fn another_store_is_refused_in_reports(rt: HostRuntime) -> Result<(), Fail> {
-    assert!(rt; is_other(rt.alloc(), "check")?, "check");
-    assert!(rt; is_other(rt.alloc(), "dump")?, "dump");
+    assert!(rt; is_other(rt, rt.alloc(), "check")?, "check");
+    assert!(rt; is_other(rt, rt.alloc(), "dump")?, "dump");
     Ok(())
 }
 
 // Whether the command has status 1 where the first call of the report's sink fails.
-fn is_fault(alloc: Global, name: &str) -> Result<bool, Fail> {
+fn is_fault<R: Threads + Wait + Copy + Send + 'static>(
+    rt: R,
+    alloc: Global,
+    name: &str,
+) -> Result<bool, Fail> {
     let left = report(
+        rt,
         alloc,
         &[name, "D", "1"],
         disk_with(alloc, &[HEAD, A_AT_1])?,
@@ -184,19 +204,23 @@ fn is_fault(alloc: Global, name: &str) -> Result<bool, Fail> {
 
 #[test]
 fn a_sink_that_fails_is_a_fault_of_the_report(rt: HostRuntime) -> Result<(), Fail> {
-    assert!(rt; is_fault(rt.alloc(), "check")?, "check");
-    assert!(rt; is_fault(rt.alloc(), "dump")?, "dump");
+    assert!(rt; is_fault(rt, rt.alloc(), "check")?, "check");
+    assert!(rt; is_fault(rt, rt.alloc(), "dump")?, "dump");
     Ok(())
 }
 
 // What a report over two workers is refused where the take with this number fails, and how many
 // disks and reports the site has then. No take has the number 0.
-fn refused_at(alloc: Global, take: u32) -> Result<(u8, Option<Refused>, u32), Fail> {
+fn refused_at<R: Threads + Wait + Copy + Send + 'static>(
+    rt: R,
+    alloc: Global,
+    take: u32,
+) -> Result<(u8, Option<Refused>, u32), Fail> {
     let mut site = MemSite::new(alloc, Calls::of(alloc, &[take])?);
     site.put_disk("D", 0, new_disk(alloc, &[])?)?;
     site.put_disk("D", 1, new_disk(alloc, &[])?)?;
     site.put_report(MemSink::new(alloc, 100, Calls::none())?);
-    let ended = command_over(alloc, &["check", "D", "2"], &mut site)?;
+    let ended = command_over(rt, alloc, &["check", "D", "2"], &mut site)?;
     Ok((ended.status, ended.refused, held(&site)))
 }
 
@@ -207,24 +231,32 @@ fn held(site: &MemSite) -> u32 {
 }
 
 // Whether the take with this number is refused with status 3, and all is given back.
-fn is_not_taken(alloc: Global, take: u32, wanted: Refused) -> Result<bool, Fail> {
-    let (status, refused, held) = refused_at(alloc, take)?;
+fn is_not_taken<R: Threads + Wait + Copy + Send + 'static>(
+    rt: R,
+    alloc: Global,
+    take: u32,
+    wanted: Refused,
+) -> Result<bool, Fail> {
+    let (status, refused, held) = refused_at(rt, alloc, take)?;
     Ok(status == 3 && refused == Some(wanted) && held == 3)
 }
 
 #[test]
 fn what_the_site_refuses_is_told(rt: HostRuntime) -> Result<(), Fail> {
     let alloc = rt.alloc();
-    assert!(rt; is_not_taken(alloc, 1, Refused::TakeReport)?, "the report");
     assert!(rt;
-        is_not_taken(alloc, 2, Refused::TakeDisk { worker: 0 })?,
+        is_not_taken(rt, alloc, 1, Refused::TakeReport)?,
+        "the report"
+    );
+    assert!(rt;
+        is_not_taken(rt, alloc, 2, Refused::TakeDisk { worker: 0 })?,
         "the first disk"
     );
     assert!(rt;
-        is_not_taken(alloc, 3, Refused::TakeDisk { worker: 1 })?,
+        is_not_taken(rt, alloc, 3, Refused::TakeDisk { worker: 1 })?,
         "the second disk"
     );
-    let (status, refused, held) = refused_at(alloc, 4)?;
+    let (status, refused, held) = refused_at(rt, alloc, 4)?;
     assert!(rt; status == 0 && refused.is_none() && held == 3, "both");
     Ok(())
 }

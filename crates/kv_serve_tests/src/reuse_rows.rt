@@ -2,7 +2,9 @@ use crate::row_run::FLUSH;
 use crate::test_run::{Left, new_disk, serve};
 use kv_disk::Disk;
 use std::alloc::Global;
+use std::sync::Wait;
 use std::test::Fail;
+use std::thread::Threads;
 
 // 200 frames, each of these bytes and a number.
 fn push_frames(all: &mut Vec<u8>, begin: &[u8], end: &[u8]) -> Result<(), Fail> {
@@ -28,12 +30,16 @@ fn puts(alloc: Global, again: bool) -> Result<Vec<u8>, Fail> {
 }
 
 // The bytes that go out, and the length of file 1 behind them.
-fn lengths(alloc: Global, input: &[u8]) -> Result<(usize, u32), Fail> {
+fn lengths<R: Threads + Wait + Copy + Send + 'static>(
+    rt: R,
+    alloc: Global,
+    input: &[u8],
+) -> Result<(usize, u32), Fail> {
     let Left {
         output,
         mut disk,
         ..
-    } = serve(alloc, new_disk(alloc, &[])?, input, &[])?;
+    } = serve(rt, alloc, new_disk(alloc, &[])?, input, &[])?;
     Ok((output.len(), disk.length(1)?))
 }
 
@@ -41,7 +47,7 @@ fn lengths(alloc: Global, input: &[u8]) -> Result<(usize, u32), Fail> {
 fn freed_slots_are_used_again(rt: HostRuntime) -> Result<(), Fail> {
     let alloc = rt.alloc();
     // Replies of 13 bytes, and slots of 64.
-    assert_eq!(rt; lengths(alloc, &puts(alloc, false)?)?, (2_600, 4));
-    assert_eq!(rt; lengths(alloc, &puts(alloc, true)?)?, (7_800, 4));
+    assert_eq!(rt; lengths(rt, alloc, &puts(alloc, false)?)?, (2_600, 4));
+    assert_eq!(rt; lengths(rt, alloc, &puts(alloc, true)?)?, (7_800, 4));
     Ok(())
 }

@@ -3,7 +3,9 @@ use kv_base::Cause;
 use kv_disk::{Disk, MemDisk};
 use kv_serve::Ended;
 use std::alloc::Global;
+use std::sync::Wait;
 use std::test::Fail;
+use std::thread::Threads;
 
 /// Bytes, and behind them so many letters v.
 pub type Part = (&'static [u8], usize);
@@ -42,6 +44,12 @@ pub const AFTER_0: Part = (b"\x09\0\0\0\x06\0\0\0\0\0\0\0\0", 0);
 
 /// After 1.
 pub const AFTER_1: Part = (b"\x09\0\0\0\x06\x01\0\0\0\0\0\0\0", 0);
+
+/// After 2.
+pub const AFTER_2: Part = (b"\x09\0\0\0\x06\x02\0\0\0\0\0\0\0", 0);
+
+/// After 9.
+pub const AFTER_9: Part = (b"\x09\0\0\0\x06\x09\0\0\0\0\0\0\0", 0);
 
 // Frames of replies: length, kind, stamp.
 
@@ -171,9 +179,14 @@ pub fn has_ended(ended: &Ended, cause: Cause, taken: usize, left: usize) -> bool
 }
 
 // What a run that is as it has to be leaves of the disk.
-fn left_behind(alloc: Global, disk: MemDisk, run: &Run) -> Result<Option<MemDisk>, Fail> {
+fn left_behind<R: Threads + Wait + Copy + Send + 'static>(
+    rt: R,
+    alloc: Global,
+    disk: MemDisk,
+    run: &Run,
+) -> Result<Option<MemDisk>, Fail> {
     let input = bytes_of(alloc, run.input)?;
-    let left = serve(alloc, disk, &input, &[])?;
+    let left = serve(rt, alloc, disk, &input, &[])?;
     if !has_ended(&left.ended, run.cause, input.len(), 0)
         || left.output != bytes_of(alloc, run.output)?
     {
@@ -195,10 +208,14 @@ fn stopped(disk: MemDisk, choice: &[u32]) -> Result<MemDisk, Fail> {
 }
 
 /// Whether the case's runs go as they have to.
-pub fn is_so(alloc: Global, case: &Case) -> Result<bool, Fail> {
+pub fn is_so<R: Threads + Wait + Copy + Send + 'static>(
+    rt: R,
+    alloc: Global,
+    case: &Case,
+) -> Result<bool, Fail> {
     let mut disk = disk_with(alloc, case.pages)?;
     for run in case.runs {
-        disk = match left_behind(alloc, disk, run)? {
+        disk = match left_behind(rt, alloc, disk, run)? {
             Some(disk) => disk,
             None => return Ok(false),
         };

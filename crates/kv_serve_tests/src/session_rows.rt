@@ -181,7 +181,7 @@ fn cases() -> &'static [Case] {
 #[test]
 fn runs_answer_what_their_bytes_say(rt: HostRuntime) -> Result<(), Fail> {
     for case in cases() {
-        assert!(rt; is_so(rt.alloc(), case)?, "{}", case.name);
+        assert!(rt; is_so(rt, rt.alloc(), case)?, "{}", case.name);
     }
     Ok(())
 }

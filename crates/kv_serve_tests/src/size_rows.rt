@@ -118,7 +118,7 @@ fn cases() -> &'static [Case] {
 #[test]
 fn items_take_the_pages_of_their_class(rt: HostRuntime) -> Result<(), Fail> {
     for case in cases() {
-        assert!(rt; is_so(rt.alloc(), case)?, "{}", case.name);
+        assert!(rt; is_so(rt, rt.alloc(), case)?, "{}", case.name);
     }
     Ok(())
 }

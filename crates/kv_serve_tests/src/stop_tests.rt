@@ -3,7 +3,9 @@ use kv_base::Cause;
 use kv_disk::MemDisk;
 use kv_serve::Ended;
 use std::alloc::Global;
+use std::sync::Wait;
 use std::test::Fail;
+use std::thread::Threads;
 
 // A letter and how often it stands in a value. None is no value.
 type Value = Option<(u8, u16)>;
@@ -99,7 +101,8 @@ fn group_frames(input: &mut Vec<u8>, changes: &[Change]) -> Result<(), Fail> {
 }
 
 // The disk behind a session with the first of these groups.
-fn disk_behind(
+fn disk_behind<R: Threads + Wait + Copy + Send + 'static>(
+    rt: R,
     alloc: Global,
     disk: MemDisk,
     groups: &[&[Change]],
@@ -109,7 +112,7 @@ fn disk_behind(
     for changes in groups.iter().take(count) {
         group_frames(&mut input, changes)?;
     }
-    Ok(serve(alloc, disk, &input, &[])?.disk)
+    Ok(serve(rt, alloc, disk, &input, &[])?.disk)
 }
 
 // The frame at the front, without its length, and what stands behind it.
@@ -154,8 +157,14 @@ fn tell_each(replies: &[u8], old: &Values, new: &Values) -> bool {
 }
 
 // Whether the disk that was left has of each key the old value or the new one.
-fn has_each(alloc: Global, disk: MemDisk, old: &Values, new: &Values) -> Result<bool, Fail> {
-    let left = serve(alloc, disk, GETS, &[])?;
+fn has_each<R: Threads + Wait + Copy + Send + 'static>(
+    rt: R,
+    alloc: Global,
+    disk: MemDisk,
+    old: &Values,
+    new: &Values,
+) -> Result<bool, Fail> {
+    let left = serve(rt, alloc, disk, GETS, &[])?;
     Ok(left.ended.status == 0 && tell_each(&left.output, old, new))
 }
 
@@ -178,7 +187,8 @@ fn is_same(disk: &MemDisk, other: &MemDisk) -> bool {
 
 // Whether the disk, stopped at the moment, has of each key the old value or the new one, whatever
 // writes of up to three pages are left: none has two between two syncs.
-fn has_each_always(
+fn has_each_always<R: Threads + Wait + Copy + Send + 'static>(
+    rt: R,
     alloc: Global,
     disk: &MemDisk,
     moment: u32,
@@ -193,7 +203,7 @@ fn has_each_always(
     };
     for choice in 0..=last {
         let left = crashed(disk, moment, &[choice % 2, choice / 2 % 2, choice / 4])?;
-        if !has_each(alloc, left, old, new)? {
+        if !has_each(rt, alloc, left, old, new)? {
             return Ok(false);
         }
     }
@@ -202,7 +212,8 @@ fn has_each_always(
 
 // The first of these moments at which the disk has another value than it may. At the last one the
 // last group is answered, and before it each key has its old value or its new one.
-fn first_wrong(
+fn first_wrong<R: Threads + Wait + Copy + Send + 'static>(
+    rt: R,
     alloc: Global,
     disk: &MemDisk,
     first: u32,
@@ -211,11 +222,11 @@ fn first_wrong(
 ) -> Result<Option<u32>, Fail> {
     let last = disk.calls();
     for moment in first..last {
-        if !has_each_always(alloc, disk, moment, old, new)? {
+        if !has_each_always(rt, alloc, disk, moment, old, new)? {
             return Ok(Some(moment));
         }
     }
-    if has_each_always(alloc, disk, last, new, new)? {
+    if has_each_always(rt, alloc, disk, last, new, new)? {
         Ok(None)
     } else {
         Ok(Some(last))
@@ -228,24 +239,32 @@ fn copy_of(disk: &MemDisk) -> Result<MemDisk, Fail> {
 }
 
 // The disk behind a session of one group, a new one where it has no changes.
-fn disk_with(alloc: Global, changes: &[Change]) -> Result<MemDisk, Fail> {
+fn disk_with<R: Threads + Wait + Copy + Send + 'static>(
+    rt: R,
+    alloc: Global,
+    changes: &[Change],
+) -> Result<MemDisk, Fail> {
     let disk = new_disk(alloc, &[])?;
     if changes.is_empty() {
         return Ok(disk);
     }
-    disk_behind(alloc, disk, &[changes], 1)
+    disk_behind(rt, alloc, disk, &[changes], 1)
 }
 
 // The first moment of the scene at which a stop leaves another value than it may.
-fn first_wrong_in(alloc: Global, scene: &Scene) -> Result<Option<u32>, Fail> {
-    let start = disk_with(alloc, scene.before)?;
+fn first_wrong_in<R: Threads + Wait + Copy + Send + 'static>(
+    rt: R,
+    alloc: Global,
+    scene: &Scene,
+) -> Result<Option<u32>, Fail> {
+    let start = disk_with(rt, alloc, scene.before)?;
     let mut first = 0;
     let Some(mut old) = scene.values.first() else {
         return Err(Fail::new("the keys have values"));
     };
     for (count, new) in scene.values.iter().enumerate() {
-        let disk = disk_behind(alloc, copy_of(&start)?, scene.groups, count)?;
-        if let Some(moment) = first_wrong(alloc, &disk, first, old, new)? {
+        let disk = disk_behind(rt, alloc, copy_of(&start)?, scene.groups, count)?;
+        if let Some(moment) = first_wrong(rt, alloc, &disk, first, old, new)? {
             return Ok(Some(moment));
         }
         first = disk.calls().saturating_add(1);
@@ -257,7 +276,12 @@ fn first_wrong_in(alloc: Global, scene: &Scene) -> Result<Option<u32>, Fail> {
 #[test]
 fn a_stop_leaves_old_or_new_values_and_all_that_was_answered(rt: HostRuntime) -> Result<(), Fail> {
     for scene in &SCENES {
-        assert_eq!(rt; first_wrong_in(rt.alloc(), scene)?, None, "{}", scene.name);
+        assert_eq!(rt;
+            first_wrong_in(rt, rt.alloc(), scene)?,
+            None,
+            "{}",
+            scene.name
+        );
     }
     Ok(())
 }
@@ -281,10 +305,13 @@ const REFUSALS: &[u8] = b"\x09\0\0\0\xE6\x01\0\0\0\0\0\0\0\x09\0\0\0\xE6\x02\0\0
 \x01\0\0\0\xE5\x01\0\0\0\xE7";
 
 // The disk behind a session whose last call fails, the sync of its first group.
-fn unsure_disk(alloc: Global) -> Result<Option<MemDisk>, Fail> {
-    let whole = serve(alloc, new_disk(alloc, &[])?, GROUP, &[])?;
+fn unsure_disk<R: Threads + Wait + Copy + Send + 'static>(
+    rt: R,
+    alloc: Global,
+) -> Result<Option<MemDisk>, Fail> {
+    let whole = serve(rt, alloc, new_disk(alloc, &[])?, GROUP, &[])?;
     let sync = whole.disk.calls();
-    let left = serve(alloc, new_disk(alloc, &[sync])?, TWO_GROUPS, &[])?;
+    let left = serve(rt, alloc, new_disk(alloc, &[sync])?, TWO_GROUPS, &[])?;
     if ended_so(&left.ended, 1) && left.output.as_slice() == REFUSALS {
         Ok(Some(left.disk))
     } else {
@@ -295,14 +322,14 @@ fn unsure_disk(alloc: Global) -> Result<Option<MemDisk>, Fail> {
 #[test]
 fn a_failed_sync_closes_the_store_until_it_is_opened_again(rt: HostRuntime) -> Result<(), Fail> {
     let alloc = rt.alloc();
-    let Some(disk) = unsure_disk(alloc)? else {
+    let Some(disk) = unsure_disk(rt, alloc)? else {
         return Err(Fail::new("the replies are unsure, and then closed"));
     };
     // Both keys are on one page, which is as it was or has what was written.
     let old = [None, None, None];
     let new = [Some((b'1', 1)), Some((b'2', 1)), None];
     let last = disk.calls();
-    assert!(rt; has_each(alloc, crashed(&disk, last, &[0])?, &old, &old)?);
-    assert!(rt; has_each(alloc, crashed(&disk, last, &[1])?, &new, &new)?);
+    assert!(rt; has_each(rt, alloc, crashed(&disk, last, &[0])?, &old, &old)?);
+    assert!(rt; has_each(rt, alloc, crashed(&disk, last, &[1])?, &new, &new)?);
     Ok(())
 }

@@ -3,7 +3,9 @@ use kv_disk::MemDisk;
 use kv_serve::{Ended, run_words};
 use kv_site::{MemSite, Site};
 use std::alloc::Global;
+use std::sync::Wait;
 use std::test::Fail;
+use std::thread::Threads;
 
 /// How a command ended, the bytes that went out, and the disk that came back.
 #[derive(Drop)]
@@ -17,12 +19,26 @@ pub struct Left {
 }
 
 /// Serves a session with this input over the disk. The sink fails at the listed calls.
-pub fn serve(alloc: Global, disk: MemDisk, input: &[u8], fails: &[u32]) -> Result<Left, Fail> {
-    run(alloc, &["serve", "D", "1", "-", "-"], disk, input, fails)
+pub fn serve<R: Threads + Wait + Copy + Send + 'static>(
+    rt: R,
+    alloc: Global,
+    disk: MemDisk,
+    input: &[u8],
+    fails: &[u32],
+) -> Result<Left, Fail> {
+    run(
+        rt,
+        alloc,
+        &["serve", "D", "1", "-", "-"],
+        disk,
+        input,
+        fails,
+    )
 }
 
 /// Carries out a command over a site with the disk in D and a session with this input.
-pub fn run(
+pub fn run<R: Threads + Wait + Copy + Send + 'static>(
+    rt: R,
     alloc: Global,
     words: &[&str],
     disk: MemDisk,
@@ -31,23 +47,34 @@ pub fn run(
 ) -> Result<Left, Fail> {
     let words = words_of(alloc, words)?;
     let mut site = site_over(alloc, disk, input, fails)?;
-    let ended = command(alloc, &words, &mut site);
+    let ended = command(rt, alloc, &words, &mut site);
     left_by(alloc, ended, site)
 }
 
 // No clause says what came of it: its callers compare values.
-fn command(alloc: Global, words: &[String], site: &mut MemSite) -> Ended {
-    run_words(alloc, words, site)
+fn command<R: Threads + Wait + Copy + Send + 'static>(
+    rt: R,
+    alloc: Global,
+    words: &[String],
+    site: &mut MemSite,
+) -> Ended {
+    run_words(rt, alloc, words, site)
 }
 
 /// Carries out a command over a site with the disk in D and a sink for a report, which fails at the
 /// listed calls.
-pub fn report(alloc: Global, words: &[&str], disk: MemDisk, fails: &[u32]) -> Result<Left, Fail> {
+pub fn report<R: Threads + Wait + Copy + Send + 'static>(
+    rt: R,
+    alloc: Global,
+    words: &[&str],
+    disk: MemDisk,
+    fails: &[u32],
+) -> Result<Left, Fail> {
     let words = words_of(alloc, words)?;
     let mut site = MemSite::new(alloc, Calls::none());
     site.put_disk("D", 0, disk)?;
     site.put_report(MemSink::new(alloc, 20_000, Calls::of(alloc, fails)?)?);
-    let ended = command(alloc, &words, &mut site);
+    let ended = command(rt, alloc, &words, &mut site);
     let output = Vec::from_slice(alloc, report_of(&site))?;
     left_with(ended, output, site)
 }
@@ -60,9 +87,14 @@ fn report_of(site: &MemSite) -> &[u8] {
 }
 
 /// Carries out a command over the site.
-pub fn command_over(alloc: Global, words: &[&str], site: &mut MemSite) -> Result<Ended, Fail> {
+pub fn command_over<R: Threads + Wait + Copy + Send + 'static>(
+    rt: R,
+    alloc: Global,
+    words: &[&str],
+    site: &mut MemSite,
+) -> Result<Ended, Fail> {
     let words = words_of(alloc, words)?;
-    Ok(command(alloc, &words, site))
+    Ok(command(rt, alloc, &words, site))
 }
 
 fn words_of(alloc: Global, words: &[&str]) -> Result<Vec<String>, Fail> {

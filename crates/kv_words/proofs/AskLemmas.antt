@@ -2,10 +2,12 @@
 use Rattle.std.proofs.Common.{◌≡◌, ℕ, List, [], ◌∷◌, codes, get_or, refl, sym, ap, ◌∙◌, subst}
 use Rattle.std.proofs.Common.{arith, ◌<◌, lit<}
 use Rattle.std.proofs.lemmas.Option.{same_Some}
+use Rattle.std.specs.Str.Parse.{digits_value, without_leading_plus}
 use Rattle.kv_base.specs.declared.limits.Limits.{Limits}
 use Rattle.kv_words.specs.Words.{Text, Line, Tells, line_of, AreLimitsOf, IsLimit, SaysServe, SaysReport, Serving}
 use Rattle.kv_words.specs.Words.{Reporting, Asked, serve, check, dump, Says, first_word, Asks, all_said}
-use Rattle.kv_words.specs.Words.{nothing_said}
+use Rattle.kv_words.specs.Words.{nothing_said, words_of}
+use Rattle.kv_words.proofs.SessionLemmas.{sessions-one}
 
 limit-one : (most otherwise : ℕ) (texts : List Text) (m n : ℕ) → IsLimit most otherwise texts m
     → IsLimit most otherwise texts n → m ≡ n
@@ -21,27 +23,30 @@ limits-one line a b first second = same-limits a b
     (limit-one _ _ line.slots a.slots b.slots first.slots second.slots)
     (limit-one _ _ line.cache a.cache b.cache first.cache second.cache)
 
-same-serving : (a b : Serving) → a.folder ≡ b.folder → a.limits ≡ b.limits → a.input ≡ b.input
-    → a.output ≡ b.output → a ≡ b
-same-serving a b folder limits input output = rw (folder, limits, input, output) refl
+same-serving : (a b : Serving) → a.folder ≡ b.folder → a.workers ≡ b.workers → a.limits ≡ b.limits
+    → a.sessions ≡ b.sessions → a ≡ b
+same-serving a b folder workers limits sessions = rw (folder, workers, limits, sessions) refl
 
 same-reporting : (a b : Reporting) → a.folder ≡ b.folder → a.workers ≡ b.workers → a ≡ b
 same-reporting a b folder workers = rw (folder, workers) refl
 
--- the places of two lists of four
-four : (a b c d e f g h : Text) → a ∷ b ∷ c ∷ d ∷ [] ≡ e ∷ f ∷ g ∷ h ∷ []
-    → (a ≡ e) × (c ≡ g) × (d ≡ h)
-four a b c d e f g h same = (cc, cc, cc)
-
 two : (a b c d : Text) → a ∷ b ∷ [] ≡ c ∷ d ∷ [] → (a ≡ c) × (b ≡ d)
 two a b c d same = (cc, cc)
 
+-- the two first words, and the others
+two-first : (a b c d : Text) (xs ys : List Text) → a ∷ b ∷ xs ≡ c ∷ d ∷ ys
+    → (a ≡ c) × (b ≡ d) × (xs ≡ ys)
+two-first a b c d xs ys same = (cc, cc, cc)
+
 serve-one : (line : Line) (a b : Serving) → SaysServe line a → SaysServe line b → a ≡ b
 serve-one line a b first second =
-    let places = four a.folder first.workers a.input a.output b.folder second.workers b.input b.output
-    (sym first.plain ∙ second.plain) in
-    same-serving a b places.0 (limits-one line a.limits b.limits first.limits second.limits) places.1
-    places.2
+    let places = two-first a.folder first.number b.folder second.number (words_of a.sessions)
+    (words_of b.sessions) (sym first.plain ∙ second.plain) in
+    same-serving a b places.0
+    (first.workers.is.value ∙ ap (λ text. digits_value 10 (without_leading_plus text)) places.1
+    ∙ sym second.workers.is.value)
+    (limits-one line a.limits b.limits first.limits second.limits)
+    (sessions-one a.sessions b.sessions places.2)
 
 report-one : (line : Line) (a b : Reporting) → SaysReport line a → SaysReport line b → a ≡ b
 report-one line a b first second =
@@ -97,3 +102,16 @@ tells-rest words rest first asked is asks =
         line_is = refl;
       },
     )
+
+-- what the first word asks with what those behind it say is what all words ask
+pub asks-told : (words rest : List Text) (first : Text) (line : Line) (asked : Asked)
+    → words ≡ first ∷ rest → Tells rest line → first ≡ first_word asked → Says line asked
+    → Asks words asked
+asks-told words rest first line asked is tells named says = record {
+  rest = rest;
+  said = tells.said;
+  words_are = is ∙ ap (λ word. word ∷ rest) named;
+  all = tells.all;
+  none_waits = tells.none_waits;
+  says = subst (λ told. Says told asked) tells.line_is says;
+}

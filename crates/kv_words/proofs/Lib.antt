@@ -1,4 +1,5 @@
 pub mod WordsLemmas
+pub mod SessionLemmas
 pub mod AskLemmas
 pub mod ClapState
 pub mod ClapTurns

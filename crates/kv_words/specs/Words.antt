@@ -1,6 +1,7 @@
 -- The words of a command.
 use Rattle.std.specs.Prelude.{◌≡◌, ◌≤◌, ◌^◌, ℕ, ◌==◌, ◌||◌, not, List, [], ◌∷◌, ◌++◌, length, codes}
 use Rattle.std.specs.Prelude.{Bool, true, false, Option, None, Some, if◌then◌else◌}
+use Rattle.std.specs.Prelude.{count_by}
 use Rattle.std.specs.List.{list_any, before_first, after_first}
 use Rattle.std.specs.Prelude.{option_and_then}
 use Rattle.std.specs.Str.{bytes_eq}
@@ -139,19 +140,45 @@ pub record AreLimitsOf (line : Line) (limits : Limits) : Type 0 where
 abbrev pub HasNoOption : Line → Type 0
 HasNoOption line = (line.slots ≡ []) × (line.cache ≡ [])
 
--- the words of a session over a worker: the folder of its store, its limits, and where the bytes come
--- from and go to
-pub record Serving : Type 0 where
-  pub folder : Text
-  pub limits : Limits
+-- where the bytes of a session come from, and where they go to
+pub record Ends : Type 0 where
   pub input : Text
   pub output : Text
 
--- DIR N IN OUT with options, where N is 1
+-- the words of sessions: two for each
+abbrev pub words_of : List Ends → List Text
+words_of [] = []
+words_of (ends ∷ sessions) = ends.input ∷ ends.output ∷ words_of sessions
+
+-- whether the session reads standard input
+abbrev pub reads_standard : Ends → Bool
+reads_standard ends = bytes_eq ends.input (codes "-")
+
+-- whether the session writes to standard output
+abbrev pub writes_standard : Ends → Bool
+writes_standard ends = bytes_eq ends.output (codes "-")
+
+-- 1 to 8 sessions, of which at most one reads standard input and at most one writes to standard output
+pub record AreSessions (sessions : List Ends) : Type 0 where
+  pub some : 1 ≤ length sessions
+  pub most : length sessions ≤ 8
+  pub one_reads : count_by reads_standard sessions ≤ 1
+  pub one_writes : count_by writes_standard sessions ≤ 1
+
+-- the words of sessions over workers: the folder of their store, the number of workers, the limits of
+-- each, and the ends of each session
+pub record Serving : Type 0 where
+  pub folder : Text
+  pub workers : ℕ
+  pub limits : Limits
+  pub sessions : List Ends
+
+-- DIR N IN OUT with further pairs IN OUT and with options, where N is 1 to 16
 pub record SaysServe (line : Line) (serving : Serving) : Type 0 where
-  pub workers : Text
-  pub plain : line.plain ≡ serving.folder ∷ workers ∷ serving.input ∷ serving.output ∷ []
-  pub one : IsNumberIn 1 1 workers 1
+  pub number : Text
+  pub plain : line.plain ≡ serving.folder ∷ number ∷ words_of serving.sessions
+  pub workers : IsNumberIn 1 16 number serving.workers
+  pub sessions : AreSessions serving.sessions
   pub limits : AreLimitsOf line serving.limits
 
 -- the words of a report: the folder and the number of workers

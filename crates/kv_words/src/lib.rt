@@ -2,6 +2,8 @@
 #![tactic(auto)]
 
 mod said;
+mod sessions;
 mod words;
 
+pub use sessions::{Ends, Sessions};
 pub use words::{Command, WordsFault, read_words};

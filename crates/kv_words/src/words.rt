@@ -4,6 +4,7 @@ ghost use Rattle.kv_words.specs.Words.{Asked, Asks, AreLimitsOf, IsLimit, IsNumb
 ghost use Rattle.kv_words.specs.Words.{Says, SaysReport, SaysServe, Serving, first_word};
 
 use crate::said::{Heard, hear_all};
+use crate::sessions::{Sessions, sessions_in};
 use kv_base::Limits;
 use std::alloc::{AllocError, Global};
 
@@ -23,18 +24,18 @@ const MOST_PAGES: u32 = 1_024;
 const MOST_WORKERS: u32 = 16;
 
 /// A command.
-#[derive(Clone, Copy, Debug, PartialEq, Eq)]
+#[derive(Debug, Drop)]
 pub enum Command<'a> {
-    /// Serves a session over the store of one worker.
+    /// Serves sessions over a store.
     Serve {
         /// The folder of the store.
         folder: &'a str,
-        /// Its limits.
+        /// The number of workers, 1 to 16.
+        workers: u32,
+        /// The limits of each worker.
         limits: Limits,
-        /// Where requests come from: a path, or `-` for standard input.
-        input: &'a str,
-        /// Where replies go: a path, or `-` for standard output.
-        output: &'a str,
+        /// The names of the sessions' ends, 1 to 8 sessions.
+        sessions: Sessions<'a>,
     },
     /// Reports what stands in the slots of a store's disks.
     Check {
@@ -105,22 +106,31 @@ fn limits_of(heard: &Heard) -> Option<Limits>
     Some(Limits { slots, cache })
 }
 
-/// The command `serve`, where the words behind it say one over one worker.
-fn served<'a>(heard: &Heard<'a>) -> Option<Command<'a>>
-    ensures { MatchOption result ((serving : Serving) → SaysServe heard.now serving → ⊥)
-        (λ command. (serving : Serving) × (asked_by command ≡ Asked.serve serving)
-        × SaysServe heard.now serving) }
+/// The command `serve`, where the words behind it say one.
+fn served<'a>(alloc: Global, heard: &Heard<'a>) -> Result<Command<'a>, WordsFault>
+    ensures ok { IfOk result (λ command. (serving : Serving)
+        × (asked_by command ≡ Asked.serve serving) × SaysServe heard.now serving) }
+    ensures usage { result ≡ Err WordsFault.Usage → (serving : Serving)
+        → SaysServe heard.now serving → ⊥ }
 {
-    let [folder, workers, input, output] = heard.plain.as_slice() else {
-        return None;
+    let [folder, number, names @ ..] = heard.plain.as_slice() else {
+        return Err(WordsFault::Usage);
     };
-    number_in(workers, 1, 1)?;
-    let limits = limits_of(heard)?;
-    Some(Command::Serve {
+    let Some(workers) = number_in(number, 1, MOST_WORKERS) else {
+        return Err(WordsFault::Usage);
+    };
+    let Some(limits) = limits_of(heard) else {
+        return Err(WordsFault::Usage);
+    };
+    let sessions = match sessions_in(alloc, names) {
+        Ok(sessions) => sessions,
+        Err(fault) => return Err(fault),
+    };
+    Ok(Command::Serve {
         folder,
+        workers,
         limits,
-        input,
-        output,
+        sessions,
     })
 }
 
@@ -142,22 +152,23 @@ fn reported<'a>(heard: &Heard<'a>) -> Option<(&'a str, u32)>
 }
 
 /// The command with this first word, where the words behind it say one.
-fn command_of<'a>(first: &str, heard: &Heard<'a>) -> Option<Command<'a>>
-    ensures { MatchOption result ((asked : Asked) → first.now ≡ first_word asked
-        → Says heard.now asked → ⊥) (λ command. (first.now ≡ first_word (asked_by command))
+fn command_of<'a>(alloc: Global, first: &str, heard: &Heard<'a>) -> Result<Command<'a>, WordsFault>
+    ensures ok { IfOk result (λ command. (first.now ≡ first_word (asked_by command))
         × Says heard.now (asked_by command)) }
+    ensures usage { result ≡ Err WordsFault.Usage → (asked : Asked)
+        → first.now ≡ first_word asked → Says heard.now asked → ⊥ }
 {
     match first {
-        "serve" => served(heard),
-        "check" => {
-            let (folder, workers) = reported(heard)?;
-            Some(Command::Check { folder, workers })
-        }
-        "dump" => {
-            let (folder, workers) = reported(heard)?;
-            Some(Command::Dump { folder, workers })
-        }
-        _ => None,
+        "serve" => served(alloc, heard),
+        "check" => match reported(heard) {
+            Some((folder, workers)) => Ok(Command::Check { folder, workers }),
+            None => Err(WordsFault::Usage),
+        },
+        "dump" => match reported(heard) {
+            Some((folder, workers)) => Ok(Command::Dump { folder, workers }),
+            None => Err(WordsFault::Usage),
+        },
+        _ => Err(WordsFault::Usage),
     }
 }
 
@@ -178,8 +189,8 @@ pub fn read_words<'a>(alloc: Global, words: &'a [String]) -> Result<Command<'a>,
         Ok(heard) => heard,
         Err(fault) => return Err(fault),
     };
-    match command_of(first.as_str(), &heard) {
-        Some(command) => Ok(command),
-        None => Err(WordsFault::Usage),
+    match command_of(alloc, first.as_str(), &heard) {
+        Ok(command) => Ok(command),
+        Err(fault) => Err(fault),
     }
 }

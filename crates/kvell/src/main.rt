@@ -1,5 +1,5 @@
-//! The program: `kvell serve DIR 1 IN OUT` answers puts, gets and deletes; `kvell check DIR N` and
-//! `kvell dump DIR N` report what stands on a store's disks.
+//! The program: `kvell serve DIR N IN OUT [IN OUT ..]` answers puts, gets and deletes; `kvell check
+//! DIR N` and `kvell dump DIR N` report what stands on a store's disks.
 #![tactic(auto)]
 
 use kv_serve::{run_words, status_line};
@@ -25,7 +25,7 @@ fn main(rt: HostRuntime) -> ExitCode {
     };
     let mut stderr = rt.stderr();
     let mut site = FileSite::new(rt);
-    let ended = run_words(alloc, &words, &mut site);
+    let ended = run_words(rt, alloc, &words, &mut site);
     if let Ok(Some(line)) = status_line(alloc, &ended) {
         let _ = stderr.write_all(line.as_slice());
         let _ = stderr.write_all(b"\n");

@@ -1,7 +1,7 @@
 -- What was taken came back, and the report was made over the disks as they were taken.
 use Rattle.std.proofs.Common.{ap, length, refl, sym, subst, ◌∙◌, inr}
 use Rattle.kv_serve.specs.Report.{Makes, ReturnsAll}
-use Rattle.kv_serve.proofs.ReportLemmas.{lent-back}
+use Rattle.kv_serve.proofs.PlaceLemmas.{lent-back}
 use Rattle.kv_serve.proofs.report.report_taken.Goals as goal
 
 pub returns : goal.returns

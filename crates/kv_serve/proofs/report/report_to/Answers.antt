@@ -2,7 +2,7 @@
 use Rattle.std.proofs.Common.{Err, refl, sym, ◌∙◌, inl, subst, subst₂}
 use Rattle.kv_site.specs.FileSite.{Counts}
 use Rattle.kv_serve.specs.Report.{IsReported}
-use Rattle.kv_serve.specs.Serve.{outside_of}
+use Rattle.kv_serve.specs.Outside.{outside_of}
 use Rattle.kv_serve.proofs.ReportLemmas.{all-kept, refuses-disks}
 use Rattle.kv_serve.proofs.report.report_to.Goals as goal
 

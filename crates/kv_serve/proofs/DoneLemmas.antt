@@ -35,7 +35,8 @@ use Rattle.kv_serve.proofs.RefuseLemmas.{disk_in, disks-many, refuses-disk, refu
 use Rattle.kv_serve.proofs.RefuseLemmas.{refuses-take, took-each, took-last}
 
 module _ {In Out Pages : Type 0} (d : disks.Ghosts Pages) (o : Outside In Out Pages)
-    (folder : List ℕ) (workers : ℕ) (limits : Limits) (sessions : ℕ) (ended : Ended) (none : ended.endings.items ≡ []) where
+    (folder : List ℕ) (workers : ℕ) (limits : Limits) (sessions : ℕ) (ended : Ended)
+    (none : ended.endings.items ≡ []) where
   -- what was taken came back, and why nothing was served
   done : (olds news : List Pages) (ends : List (In × Out))
       → (IsTrue o.tells → BringsAll o.before o.after folder olds news ends ends)

@@ -1,4 +1,4 @@
--- All that was taken comes back where a disk isn't opened; else sessions are served over the stores.
+-- All that was taken comes back where a disk isn't opened; else sessions are served.
 use Rattle.std.proofs.Common.{Err, refl, sym, ◌∙◌, subst, length, rules}
 use Rattle.kv_site.specs.FileSite.{Counts}
 use Rattle.kv_serve.specs.Outside.{outside_of}
@@ -82,18 +82,18 @@ returns-in_default g c =
 
 pub returns-in_default-with_capacity : goal.returns-in_default-with_capacity
 returns-in_default-with_capacity g c =
+    let ended = c.not_served-in_default-with_capacity in
     done-at-once g.S.Pages.Disk (outside_of g.S.In.Source g.S.Out.Sink g.S.Site.tells
     (g.S.Site.holds c.args.site.now) (g.S.Site.holds c.args.site.now)
     (g.S.Site.faults c.args.site.now) (g.S.Site.faults c.args.site.now)) c.args.folder.now
-    c.args.workers c.args.limits (length c.args.names.now) c.not_served-in_default-with_capacity.result
-    c.not_served-in_default-with_capacity.ensures.endings (λ t. refl) refl c.not_served-in_default-with_capacity.ensures.status
-    c.not_served-in_default-with_capacity.ensures.refused
+    c.args.workers c.args.limits (length c.args.names.now) ended.result ended.ensures.endings
+    (λ t. refl) refl ended.ensures.status ended.ensures.refused
 
 pub returns-in_default-with_capacity-2 : goal.returns-in_default-with_capacity-2
 returns-in_default-with_capacity-2 g c =
+    let ended = c.not_served-in_default-with_capacity-2 in
     done-at-once g.S.Pages.Disk (outside_of g.S.In.Source g.S.Out.Sink g.S.Site.tells
     (g.S.Site.holds c.args.site.now) (g.S.Site.holds c.args.site.now)
     (g.S.Site.faults c.args.site.now) (g.S.Site.faults c.args.site.now)) c.args.folder.now
-    c.args.workers c.args.limits (length c.args.names.now) c.not_served-in_default-with_capacity-2.result
-    c.not_served-in_default-with_capacity-2.ensures.endings (λ t. refl) refl c.not_served-in_default-with_capacity-2.ensures.status
-    c.not_served-in_default-with_capacity-2.ensures.refused
+    c.args.workers c.args.limits (length c.args.names.now) ended.result ended.ensures.endings
+    (λ t. refl) refl ended.ensures.status ended.ensures.refused

@@ -33,8 +33,8 @@ returns-in-Err-Usage-clause-only g c two asked asks =
 
 pub returns-in-Err-NoMemory-clause-done : goal.returns-in-Err-NoMemory-clause-done
 returns-in-Err-NoMemory-clause-done g c asked asks =
+    let ended = c.not_served-in-Err-NoMemory in
     does-at-once g.S.Pages.Disk (outside_of g.S.In.Source g.S.Out.Sink g.S.Site.tells
     (g.S.Site.holds c.args.site.now) (g.S.Site.holds c.args.site.now)
-    (g.S.Site.faults c.args.site.now) (g.S.Site.faults c.args.site.now)) asked c.not_served-in-Err-NoMemory.result
-    c.not_served-in-Err-NoMemory.ensures.endings (λ t. refl) refl c.not_served-in-Err-NoMemory.ensures.status
-    c.not_served-in-Err-NoMemory.ensures.refused
+    (g.S.Site.faults c.args.site.now) (g.S.Site.faults c.args.site.now)) asked
+    ended.result ended.ensures.endings (λ t. refl) refl ended.ensures.status ended.ensures.refused
